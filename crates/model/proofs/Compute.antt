@@ -1,0 +1,130 @@
+-- `unfolding compute` opens all that `route`, `readSheet` and `hostAnswer` rest on, for theorems that are proved by computing them.
+use mathlib.Core.List.{headD, getLastD}
+use Rattle.model.specs.Lists.{any, filter, consIf, filterMap, lesser, leastBy, member, repeats, rises}
+use Rattle.model.specs.Bytes.{u16, u32, u16s, put16, put32, put16s}
+use Rattle.model.specs.Framing.{stop, push, frameUpTo, frame, putRecord}
+use Rattle.model.specs.Input.{
+  bodyIf,
+  bodies,
+  firstBody,
+  placesOf,
+  arcCountOf,
+  arcOf,
+  arcsOf,
+  estimateOf,
+  estimatesOf,
+  lookup,
+  startOf,
+  allowanceOf,
+  goalsOf,
+  problemOf,
+}
+use Rattle.model.specs.Refusals.{
+  broken,
+  unknownKind,
+  misfits,
+  wrongLength,
+  beginsWith,
+  wrongHead,
+  wrongSize,
+  outsideMap,
+  freeArc,
+  largeEstimate,
+  twoEstimates,
+  endsWith,
+  wrongJob,
+  jobOutsideMap,
+  wrongGoals,
+  goalEstimate,
+  workWords,
+  shortWork,
+  shortSheet,
+  rows,
+  firstThatHolds,
+  refusal,
+}
+use Rattle.model.specs.Costs.{
+  lowers,
+  storeIf,
+  arrive,
+  relaxFrom,
+  relax,
+  relaxAll,
+  sameEntry,
+  sameTable,
+  relaxUpTo,
+  startTable,
+  table,
+}
+use Rattle.model.specs.Query.{
+  precedes,
+  keyOf,
+  keysFrom,
+  within,
+  firstGoal,
+  lengthTo,
+  crossing,
+  nextLimit,
+  notOver,
+  judge,
+  queryOn,
+  query,
+}
+use Rattle.model.specs.Rounds.{
+  firstRound,
+  limitOf,
+  closeIf,
+  settle,
+  after,
+  ask,
+  next,
+  goOn,
+  traceUpTo,
+  trace,
+  total,
+  begun,
+  search,
+}
+use Rattle.model.specs.Routes.{parentBy, parent, extend, routeUpTo, routeTo}
+use Rattle.model.specs.Sheets.{
+  routeSheet,
+  noRouteSheet,
+  reading,
+  refusedRead,
+  impossible,
+  checked,
+  fitsRoute,
+  fitsNoRoute,
+  readRecord,
+  readFramed,
+  readSheet,
+  hostAnswer,
+}
+use Rattle.model.specs.Answer.{
+  finished,
+  searched,
+  endingIf,
+  ending,
+  sheetOf,
+  answerOf,
+  overFront,
+  workAfter,
+  route,
+}
+
+unfoldable pub compute : Unit {0}
+unfolding
+    headD getLastD
+    any filter consIf filterMap lesser leastBy member repeats rises
+    u16 u32 u16s put16 put32 put16s
+    stop push frameUpTo frame putRecord
+    bodyIf bodies firstBody placesOf arcCountOf arcOf arcsOf estimateOf estimatesOf lookup startOf allowanceOf goalsOf problemOf
+    broken unknownKind misfits wrongLength beginsWith wrongHead wrongSize outsideMap freeArc largeEstimate twoEstimates
+    endsWith wrongJob jobOutsideMap wrongGoals goalEstimate workWords shortWork shortSheet rows firstThatHolds refusal
+    lowers storeIf arrive relaxFrom relax relaxAll sameEntry sameTable relaxUpTo startTable table
+    precedes keyOf keysFrom within firstGoal lengthTo crossing nextLimit notOver judge queryOn query
+    firstRound limitOf closeIf settle after ask next goOn traceUpTo trace total begun search
+    parentBy parent extend routeUpTo routeTo
+    routeSheet noRouteSheet reading refusedRead impossible checked fitsRoute fitsNoRoute readRecord readFramed readSheet hostAnswer
+    finished searched endingIf ending sheetOf answerOf overFront workAfter route
+compute = tt
