@@ -1,2 +1,15 @@
 pub mod Compute
 pub mod Runs
+pub mod Lists
+pub mod Acceptance
+pub mod Relaxing
+pub mod LeastCosts
+pub mod Keys
+pub mod Queries
+pub mod Crossing
+pub mod Rounds
+pub mod Total
+pub mod Routes
+pub mod Admissible
+pub mod Allowance
+pub mod Laws

@@ -1,5 +1,6 @@
 -- Document 01 as definitions, in the order in which they rest on each other.
 pub mod Lists
+pub mod Numbers
 pub mod Bytes
 pub mod Framing
 pub mod Limits
@@ -13,3 +14,4 @@ pub mod Rounds
 pub mod Routes
 pub mod Sheets
 pub mod Answer
+pub mod Terms

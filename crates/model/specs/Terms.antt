@@ -1,0 +1,66 @@
+-- Words in which the laws speak of tables, rounds and traces.
+use mathlib.Core.Path.{_≡_}
+use mathlib.Core.List.{List, [], _∷_, _++_, List·Memᴰ}
+use mathlib.Core.Option.{Option, some}
+use Prim.Native.Nat.{ℕ, _+_, _*_, _≤_, _<_}
+use lib.ListN.{length}
+use Rattle.model.specs.Problem.{Problem}
+use Rattle.model.specs.Paths.{Walk, places}
+use Rattle.model.specs.Costs.{Table, costAt, table}
+use Rattle.model.specs.Query.{Outcome, ended, over, found, nothing, query}
+use Rattle.model.specs.Rounds.{Round, Step, next, total}
+
+-- an entry of at most d
+pub record AtMost (entry : Option ℕ) (d : ℕ) : Type 0 where
+  pub cost : ℕ
+  pub is : entry ≡ some cost
+  pub below : cost ≤ d
+
+-- the place has an entry
+pub record IsWithin (t : Table) (v : ℕ) : Type 0 where
+  pub cost : ℕ
+  pub is : costAt t v ≡ some cost
+
+-- every place of the walk is within C
+unfoldable pub Inside : {p : Problem} (C : ℕ) {u v d : ℕ} → Walk p u v d → Type 0
+Inside {p = p} C w = (x : ℕ) → List·Memᴰ x (places w) → IsWithin (table p C) x
+
+-- what holds of the round as each query begins
+pub record Kept (p : Problem) (r : Round) : Type 0 where
+  pub start-low : p .estimate (p .start) ≤ r .low
+  pub some-budget : 1 ≤ r .budget
+  pub high-above : (h : ℕ) → r .high ≡ some h → r .low < h
+  pub high-over : (h : ℕ) → r .high ≡ some h → query p h (r .budget) .outcome ≡ over
+
+-- found and none finish the search
+abbrev pub Final : Outcome → Type 0
+Final (ended x) = ⊥
+Final over = ⊥
+Final found = Unit {0}
+Final nothing = Unit {0}
+
+-- the last query is final and no other is
+unfoldable pub Finished : List Step → Type 0
+Finished [] = ⊥
+Finished (s ∷ []) = Final (s .query .outcome)
+Finished (s ∷ t ∷ ss) = (Final (s .query .outcome) → ⊥) × Finished (t ∷ ss)
+
+unfoldable pub LowNeverFalls : List Step → Type 0
+LowNeverFalls [] = Unit {0}
+LowNeverFalls (s ∷ []) = Unit {0}
+LowNeverFalls (s ∷ t ∷ ss) = (s .round .low ≤ t .round .low) × LowNeverFalls (t ∷ ss)
+
+-- the round closes after this query: the next budget is the grown one
+pub record Closes (p : Problem) (s : Step) : Type 0 where
+  pub round : Round
+  pub comes-next : next p s ≡ some round
+  pub grown : round .budget ≡ p .growth * s .round .budget
+
+-- Under the allowance the queries are cut at s, the n-th: it is the first that the allowance does not last for.
+pub record CutAt (allowance : ℕ) (ss : List Step) (s : Step) (n : ℕ) : Type 0 where
+  pub earlier : List Step
+  pub later : List Step
+  pub split : ss ≡ earlier ++ (s ∷ later)
+  pub lasts : total earlier ≤ allowance
+  pub exceeds : allowance < total earlier + s .query .cost
+  pub counted : n ≡ length earlier + 1
