@@ -7,10 +7,9 @@ use Prim.Native.Nat.{ℕ, zero, suc, _+_, _*_, _≤_, _<_}
 use native.Mathlib.Omega.{arith}
 use lib.Dec.{leb, eqb}
 use lib.ListN.{length, getD, take, drop}
-use lib.Seq.{getD-drop}
 use borrow.Author.Tests.{ltb-false, leb-false, eqb-true, eqb-false, not-false}
 use Rattle.model.specs.Lists.{any}
-use Rattle.model.specs.Bytes.{Bytes, u16}
+use Rattle.model.specs.Bytes.{Bytes}
 use Rattle.model.specs.Framing.{Record, Framed, stop, push, frame, frameUpTo}
 use Rattle.model.specs.Limits.{maxCost, maxEstimate}
 use Rattle.model.specs.Problem.{Arc, Valid}
@@ -38,6 +37,7 @@ use Rattle.model.specs.Refusals.{
   Accepted,
 }
 use Rattle.model.proofs.Lists.{none-some, or-false, any-false, filterMap-member}
+use Rattle.model.proofs.Bytes.{take-bytes, drop-bytes, u16-below}
 
 -- an element of `map f xs` is the image of an element of xs
 map-member : {A B : Type 0} (f : A → B) (xs : List A) (y : B) → List·Memᴰ y (map f xs) → (x : A) × List·Memᴰ x xs × (y ≡ f x)
@@ -105,15 +105,6 @@ none-holds f words bytes e =
       no-15 = no 14;
     }
 
-take-bytes : (n : ℕ) (b : List ℕ) → Bytes b → Bytes (take n b)
-take-bytes zero b B i = omega arith
-take-bytes (suc n) [] B i = omega arith
-take-bytes (suc n) (x ∷ b) B zero = B zero
-take-bytes (suc n) (x ∷ b) B (suc i) = take-bytes n b (λ j. B (suc j)) i
-
-drop-bytes : (n : ℕ) (b : List ℕ) → Bytes b → Bytes (drop n b)
-drop-bytes n b B i = rw getD-drop (B (n + i))
-
 -- the bodies of the records in bytes are bytes
 body-bytes : (k : ℕ) (bs : List ℕ) → Bytes bs → (r : Record) → List·Memᴰ r (frameUpTo k bs .records) → Bytes (r .body)
 unfolding frameUpTo
@@ -135,10 +126,6 @@ body-bytes (suc k) (a ∷ b ∷ c ∷ d ∷ rest) B r i =
     go n bytes later true (List·Memᴰ·head e) = rw e (take-bytes n rest bytes)
     go n bytes later true (List·Memᴰ·tail i) = later i
     go n bytes later false i = absurd (List·Memᴰ·not-nil i)
-
-u16-below : (b : List ℕ) (i : ℕ) → Bytes b → u16 b i < 65536
-unfolding u16
-u16-below b i B = omega (arith, B i, B (i + 1))
 
 lookup-below : (es : List Estimate) (m : ℕ) → ((e : Estimate) → List·Memᴰ e es → e .value ≤ m) → (v : ℕ) → lookup es v ≤ m
 unfolding lookup

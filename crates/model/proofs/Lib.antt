@@ -1,6 +1,8 @@
 pub mod Compute
 pub mod Runs
 pub mod Lists
+pub mod Bytes
+pub mod Indices
 pub mod Acceptance
 pub mod Relaxing
 pub mod LeastCosts
@@ -12,4 +14,5 @@ pub mod Total
 pub mod Routes
 pub mod Admissible
 pub mod Allowance
+pub mod Sheets
 pub mod Laws

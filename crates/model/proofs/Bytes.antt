@@ -1,0 +1,190 @@
+-- Fields that are written are read back. Assumes nothing.
+use mathlib.Core.Path.{_≡_, refl, sym, ap, ap₂, _∙_}
+use mathlib.Core.Bool.{Bool, true, false, cond}
+use mathlib.Core.List.{List, [], _∷_, _++_, append-assoc}
+use Prim.Native.Nat.{ℕ, zero, suc, _+_, _*_, _/_, _%_, _^_, _≤_, _<_}
+use native.Mathlib.Numerals.{add-one}
+use native.Mathlib.Omega.{arith}
+use lib.ListN.{length, getD, take, drop, length-append, length-drop}
+use lib.Seq.{getD-drop, getD-append-seam, getD-append-add, drop-cons, take-all, take-length, drop-length, take-add, drop-drop}
+use lib.Dec.{leb}
+use borrow.Author.Tests.{le-leb, leb-true}
+use Rattle.model.specs.Bytes.{Bytes, u16, u32, u16s, put16, put32, put16s}
+use Rattle.model.specs.Framing.{Record, Framed, stop, push, frame, frameUpTo, putRecord}
+
+pub take-bytes : (n : ℕ) (b : List ℕ) → Bytes b → Bytes (take n b)
+take-bytes zero b B i = omega arith
+take-bytes (suc n) [] B i = omega arith
+take-bytes (suc n) (x ∷ b) B zero = B zero
+take-bytes (suc n) (x ∷ b) B (suc i) = take-bytes n b (λ j. B (suc j)) i
+
+pub drop-bytes : (n : ℕ) (b : List ℕ) → Bytes b → Bytes (drop n b)
+drop-bytes n b B i = rw getD-drop (B (n + i))
+
+-- a field of bytes is below what its bytes can hold
+pub u16-below : (b : List ℕ) (i : ℕ) → Bytes b → u16 b i < 65536
+unfolding u16
+u16-below b i h = omega (arith, h i, h (i + 1))
+
+pub u32-below : (b : List ℕ) (i : ℕ) → Bytes b → u32 b i < 2 ^ 32
+unfolding u32
+u32-below b i h = omega (arith, u16-below b i h, u16-below b (i + 2) h)
+
+pub put16s-length : (xs : List ℕ) → length (put16s xs) ≡ 2 * length xs
+unfolding put16 put16s
+put16s-length [] = refl
+put16s-length (x ∷ xs) = omega (arith, put16s-length xs)
+
+pub u16s-length : (n : ℕ) (b : List ℕ) (i : ℕ) → length (u16s n b i) ≡ n
+unfolding u16s
+u16s-length zero b i = refl
+u16s-length (suc n) b i = ap suc (u16s-length n b (i + 2))
+
+-- a number of two bytes, or of two fields, is written as these
+put16-bytes : (x y : ℕ) → x < 256 → y < 256 → put16 (x + 256 * y) ≡ x ∷ y ∷ []
+unfolding put16
+put16-bytes x y h k = ap₂ (λ (a b : ℕ). a ∷ b ∷ []) (omega arith) (omega arith)
+
+put32-fields : (x y : ℕ) → x < 65536 → put32 (x + 65536 * y) ≡ put16 x ++ put16 y
+unfolding put16 put32
+put32-fields x y h =
+    let n : ℕ = x + 65536 * y in
+    let second : n / 256 ≡ x / 256 + 256 * y = omega arith in
+    let third : n / 65536 ≡ y = omega arith in
+    let fourth : n / 16777216 ≡ y / 256 = omega arith in
+    let bottom : n % 256 ≡ x % 256 = omega arith in
+    let next : n / 256 % 256 ≡ x / 256 % 256 = rw second (omega arith) in
+    rw (bottom, next, third, fourth)
+
+-- what is written after the front xs, before the rest ys, is read back
+pub u16-put16 : (xs : List ℕ) (n : ℕ) (ys : List ℕ) → n < 65536 → u16 (xs ++ put16 n ++ ys) (length xs) ≡ n
+unfolding u16 put16
+u16-put16 xs n ys h = rw (append-assoc, getD-append-seam, getD-append-add) (omega arith)
+
+put16-length : (xs : List ℕ) (n : ℕ) → length (xs ++ put16 n) ≡ length xs + 2
+unfolding put16
+put16-length xs n = length-append xs (put16 n)
+
+pub u32-put32 : (xs : List ℕ) (n : ℕ) (ys : List ℕ) → n < 2 ^ 32 → u32 (xs ++ put32 n ++ ys) (length xs) ≡ n
+unfolding u32
+u32-put32 xs n ys h =
+    let x : ℕ = n % 65536 in
+    let y : ℕ = n / 65536 in
+    let whole : n ≡ x + 65536 * y = omega arith in
+    let split : put32 n ≡ put16 x ++ put16 y = ap put32 whole ∙ put32-fields x y (omega arith) in
+    let low = u16-put16 xs x (put16 y ++ ys) (omega arith) in
+    let high = u16-put16 (xs ++ put16 x) y ys (omega arith) in
+    simp (split, append-assoc, simp append-assoc at low, simp (append-assoc, put16-length) at high) (sym whole)
+
+pub u16s-put16s : (xs ns ys : List ℕ) → ((i : ℕ) → getD ns i 0 < 65536) → u16s (length ns) (xs ++ put16s ns ++ ys) (length xs) ≡ ns
+unfolding u16s put16s
+u16s-put16s xs [] ys h = refl
+u16s-put16s xs (n ∷ ns) ys h =
+    let first = u16-put16 xs n (put16s ns ++ ys) (h 0) in
+    let rest = u16s-put16s (xs ++ put16 n) ns ys (λ i. h (suc i)) in
+    ap₂ {C = List ℕ} _∷_ (simp append-assoc (simp append-assoc at first)) (simp append-assoc (simp (append-assoc, put16-length) at rest))
+
+-- bytes that are read are written again
+pub put16-u16 : (b : List ℕ) (i : ℕ) → Bytes b → i + 2 ≤ length b → put16 (u16 b i) ≡ take 2 (drop i b)
+unfolding u16
+put16-u16 b i h l =
+    let here : i < length b = omega arith in
+    let next : suc i < length b = omega arith in
+    put16-bytes _ _ (h i) (h (i + 1)) ∙ rw (drop-cons b i 0, drop-cons b (suc i) 0, add-one)
+
+pub put32-u32 : (b : List ℕ) (i : ℕ) → Bytes b → i + 4 ≤ length b → put32 (u32 b i) ≡ take 4 (drop i b)
+unfolding u32
+put32-u32 b i h l =
+    let low = put16-u16 b i h (omega arith) in
+    let high = put16-u16 b (i + 2) h (omega arith) in
+    let fields = put32-fields (u16 b i) (u16 b (i + 2)) (u16-below b i h) in
+    rw (fields, low, high, ← drop-drop 2 i b) (sym (take-add 2 2 (drop i b)))
+
+pub put16s-u16s : (n : ℕ) (b : List ℕ) (i : ℕ) → Bytes b → i + 2 * n ≤ length b → put16s (u16s n b i) ≡ take (2 * n) (drop i b)
+unfolding put16s u16s
+put16s-u16s zero b i h l = refl
+put16s-u16s (suc n) b i h l =
+    let low = put16-u16 b i h (omega arith) in
+    let rest = put16s-u16s n b (i + 2) h (omega arith) in
+    let more : 2 * suc n ≡ 2 + 2 * n = omega arith in
+    rw (low, rest, more, ← drop-drop 2 i b) (sym (take-add 2 (2 * n) (drop i b)))
+
+-- one step of the framing
+module _ (k a b c d : ℕ) (rest : List ℕ) where
+  frameUpTo-step : frameUpTo (suc k) (a ∷ b ∷ c ∷ d ∷ rest)
+      ≡ cond (leb (a + 256 * b) (length rest))
+      (push (record { kind = c + 256 * d; body = take (a + 256 * b) rest }) (frameUpTo k (drop (a + 256 * b) rest)))
+      (stop true)
+  unfolding frameUpTo
+  frameUpTo-step = refl
+
+frameUpTo-end : (k : ℕ) → frameUpTo k [] ≡ stop false
+unfolding frameUpTo
+frameUpTo-end zero = refl
+frameUpTo-end (suc k) = refl
+
+-- where no more is framed, nothing is left
+frameUpTo-none : (k : ℕ) (b : List ℕ) → frameUpTo (suc k) b ≡ record { records = []; broken = false } → b ≡ []
+unfolding frameUpTo stop push
+frameUpTo-none k [] e = refl
+frameUpTo-none k (a ∷ []) e = let no-end : true ≡ false = ap (λ f. f .broken) e in cc
+frameUpTo-none k (a ∷ b ∷ []) e = let no-end : true ≡ false = ap (λ f. f .broken) e in cc
+frameUpTo-none k (a ∷ b ∷ c ∷ []) e = let no-end : true ≡ false = ap (λ f. f .broken) e in cc
+frameUpTo-none k (a ∷ b ∷ c ∷ d ∷ rest) e = go (leb (a + 256 * b) (length rest)) refl
+  where
+    go : (t : Bool) → leb (a + 256 * b) (length rest) ≡ t → _≡_ {A = List ℕ} (a ∷ b ∷ c ∷ d ∷ rest) []
+    go true u = let no-record : _≡_ {A = List Record} (_ ∷ _) [] = ap (λ f. f .records) (rw u at e) in cc
+    go false u = let no-end : true ≡ false = ap (λ f. f .broken) (rw u at e) in cc
+
+-- a record's bytes are framed as that one record; and bytes that are framed as one whole record are its bytes
+pub frame-putRecord : (kind : ℕ) (body : List ℕ) → kind < 65536 → length body < 65536
+    → frame (putRecord kind body) ≡ record { records = record { kind = kind; body = body } ∷ []; broken = false }
+unfolding put16 putRecord frame stop push
+frame-putRecord kind body k l =
+    let size : length body % 256 + 256 * (length body / 256 % 256) ≡ length body = omega arith in
+    let same : kind % 256 + 256 * (kind / 256 % 256) ≡ kind = omega arith in
+    let fits : leb (length body) (length body) ≡ true = le-leb (length body) (length body) (omega arith) in
+    rw (frameUpTo-step, size, same, take-length, drop-length, fits, frameUpTo-end)
+
+-- one whole record and nothing more
+abbrev pub alone : Record → Framed
+alone r = record { records = r ∷ []; broken = false }
+
+-- a record put in front of others is alone only if nothing follows
+push-alone : (x r : Record) (f : Framed) → push x f ≡ alone r → (x ≡ r) × (f ≡ record { records = []; broken = false })
+unfolding push
+push-alone x r f e =
+    let one : x ∷ f .records ≡ r ∷ [] = ap (λ g. g .records) e in
+    let none : f .records ≡ [] = cc in
+    let whole : f .broken ≡ false = ap (λ g. g .broken) e in
+    (cc, λ i. record { records = none i; broken = whole i })
+
+-- four bytes and a body of as many bytes as the first two say are a record
+putRecord-parts : (a b c d : ℕ) (body : List ℕ) → Bytes (a ∷ b ∷ c ∷ d ∷ body) → length body ≡ a + 256 * b
+    → a ∷ b ∷ c ∷ d ∷ body ≡ putRecord (c + 256 * d) body
+unfolding putRecord
+putRecord-parts a b c d body h l = rw (l, put16-bytes a b (h 0) (h 1), put16-bytes c d (h 2) (h 3))
+
+pub putRecord-frame : (b : List ℕ) (r : Record) → Bytes b → frame b ≡ record { records = r ∷ []; broken = false } → b ≡ putRecord (r .kind) (r .body)
+unfolding frame frameUpTo stop
+putRecord-frame [] r h e = let no-record : [] ≡ r ∷ [] = ap (λ f. f .records) e in cc
+putRecord-frame (a ∷ []) r h e = let no-end : true ≡ false = ap (λ f. f .broken) e in cc
+putRecord-frame (a ∷ b ∷ []) r h e = let no-end : true ≡ false = ap (λ f. f .broken) e in cc
+putRecord-frame (a ∷ b ∷ c ∷ []) r h e = let no-end : true ≡ false = ap (λ f. f .broken) e in cc
+putRecord-frame (a ∷ b ∷ c ∷ d ∷ rest) r h e = go (leb n (length rest)) refl
+  where
+    n : ℕ
+    n = a + 256 * b
+
+    x : Record
+    x = record { kind = c + 256 * d; body = take n rest }
+
+    go : (t : Bool) → leb n (length rest) ≡ t → a ∷ b ∷ c ∷ d ∷ rest ≡ putRecord (r .kind) (r .body)
+    go true u =
+        let k : ℕ = suc (suc (length rest)) in
+        let only = push-alone x r (frameUpTo (suc k) (drop n rest)) (rw u at e) in
+        let fits : n ≤ length rest = leb-true n (length rest) u in
+        let left : length rest ≤ n = omega (arith, length-drop n rest, ap length (frameUpTo-none k (drop n rest) (only .1))) in
+        let all : take n rest ≡ rest = take-all n rest left in
+        rw (← only .0, all) (putRecord-parts a b c d rest h (omega arith))
+    go false u = let no-end : true ≡ false = ap (λ f. f .broken) (rw u at e) in cc
