@@ -28,9 +28,9 @@ use Rattle.model.specs.Input.{problemOf}
 use Rattle.model.specs.Refusals.{Accepted}
 use Rattle.model.specs.Costs.{Table, costAt, table}
 use Rattle.model.specs.Query.{Key, within, firstGoal, ended, over, found, nothing, queryOn, query}
-use Rattle.model.specs.Rounds.{Step, ask, trace, total, search}
+use Rattle.model.specs.Rounds.{Step, firstRound, ask, trace, total, search}
 use Rattle.model.specs.Routes.{routeTo}
-use Rattle.model.specs.Terms.{AtMost, IsWithin, Inside, Kept, Finished, LowNeverFalls, Closes, CutAt}
+use Rattle.model.specs.Terms.{AtMost, IsWithin, Inside, Kept, Finished, LowNeverFalls, Closes, CutAt, Run}
 use Rattle.model.proofs.Acceptance
 use Rattle.model.proofs.LeastCosts
 use Rattle.model.proofs.Keys
@@ -38,6 +38,7 @@ use Rattle.model.proofs.Queries
 use Rattle.model.proofs.Crossing
 use Rattle.model.proofs.Rounds
 use Rattle.model.proofs.Total
+use Rattle.model.proofs.Traces
 use Rattle.model.proofs.Routes
 use Rattle.model.proofs.Admissible
 use Rattle.model.proofs.Allowance
@@ -131,6 +132,16 @@ module _ (p : Problem) (ok : Valid p) where
   -- The queries do not run out: the last is found or none, and no other is.
   pub trace-finished : Finished (trace p)
   trace-finished = Rounds.trace-finished p ok
+
+  -- So the trace is a run of queries from the first round to the one that finishes it, with at most 59 × N queries.
+  pub trace-run : Run p (firstRound p) (trace p)
+  trace-run = Traces.trace-run p ok
+
+  pub trace-length : length (trace p) ≤ 59 * p .places
+  trace-length = Traces.trace-length p ok
+
+  pub budget-below : (s : Step) → List·Memᴰ s (trace p) → s .round .budget ≤ p .growth * p .places
+  budget-below s i = Traces.budget-below p ok s i
 
   pub low-never-falls : LowNeverFalls (trace p)
   low-never-falls = Rounds.low-never-falls p ok

@@ -11,6 +11,7 @@ pub mod Queries
 pub mod Crossing
 pub mod Rounds
 pub mod Total
+pub mod Traces
 pub mod Routes
 pub mod Admissible
 pub mod Allowance

@@ -61,7 +61,7 @@ final-stops q r C over e = none-some (sym e)
 final-stops q r C found e = tt
 final-stops q r C nothing e = tt
 
-final-has-no-next : (q : ℕ) (r : Round) (C : ℕ) (o : Outcome) (s : Round) → after q r C o ≡ some s → Final o → ⊥
+pub final-has-no-next : (q : ℕ) (r : Round) (C : ℕ) (o : Outcome) (s : Round) → after q r C o ≡ some s → Final o → ⊥
 unfolding after
 final-has-no-next q r C (ended x) s e f = f
 final-has-no-next q r C over s e f = f
@@ -134,7 +134,7 @@ module _ (p : Problem) (ok : Valid p) where
           let clash : over ≡ ended x = sym o ∙ ap (λ (t : Table). queryOn p t b .outcome) same ∙ e in
           let z : _≡_ {A = ℕ} 0 1 = cc in omega arith
 
-  over-short : (C b : ℕ) → query p C b .outcome ≡ over → b < p .places
+  pub over-short : (C b : ℕ) → query p C b .outcome ≡ over → b < p .places
   over-short C b e = omega (arith, over-exceeds p C b e, within-length (table p C), table-length p C)
 
   -- what holds of the round that follows a kept one

@@ -65,32 +65,32 @@ grow t x {q} {g} {w} {B} {Q} s h e =
     omega arith
 
 -- the number of queries left in the round, at most: d is such that low stays below 2 ^ d
-left : ℕ → ℕ → Option ℕ → ℕ
+pub left : ℕ → ℕ → Option ℕ → ℕ
 left d low none = 2 * d + 2 - binaryDigits (low + 1)
 left d low (some high) = binaryDigits (high - low)
 
-left-at-first : (d low : ℕ) → left d low none ≤ 2 * d + 1
+pub left-at-first : (d low : ℕ) → left d low none ≤ 2 * d + 1
 unfolding left
 left-at-first d low = omega (arith, digits-some (low + 1) (omega arith))
 
-left-some : (d low : ℕ) (high : Option ℕ) → low < 2 ^ d → ((h : ℕ) → high ≡ some h → low < h) → 1 ≤ left d low high
+pub left-some : (d low : ℕ) (high : Option ℕ) → low < 2 ^ d → ((h : ℕ) → high ≡ some h → low < h) → 1 ≤ left d low high
 unfolding left
 left-some d low none l a = omega (arith, digits-below (low + 1) (suc d) .1 (omega (arith, two-pow-succ d)))
 left-some d low (some h) l a = digits-some (h - low) (omega (arith, a h refl))
 
 -- the query goes on in the same round, with fewer queries left
-record GoesOn (d : ℕ) (r s : Round) : Type 0 where
-  same : s .budget ≡ r .budget
-  fewer : left d (s .low) (s .high) < left d (r .low) (r .high)
+pub record GoesOn (d : ℕ) (r s : Round) : Type 0 where
+  pub same : s .budget ≡ r .budget
+  pub fewer : left d (s .low) (s .high) < left d (r .low) (r .high)
 
 -- the query closes the round
-record IsClosed (p : Problem) (r s : Round) : Type 0 where
-  unset : s .high ≡ none
-  grown : s .budget ≡ p .growth * r .budget
-  was-over : query p (s .low) (r .budget) .outcome ≡ over
+pub record IsClosed (p : Problem) (r s : Round) : Type 0 where
+  pub unset : s .high ≡ none
+  pub grown : s .budget ≡ p .growth * r .budget
+  pub was-over : query p (s .low) (r .budget) .outcome ≡ over
 
 module _ (p : Problem) (ok : Valid p) where
-  abbrev Proceeds : ℕ → Round → Round → Type 0
+  abbrev pub Proceeds : ℕ → Round → Round → Type 0
   Proceeds d r s = GoesOn d r s ⊎ IsClosed p r s
 
   -- low and high move to these, which close the round where they are equal
@@ -130,7 +130,7 @@ module _ (p : Problem) (ok : Valid p) where
       let gap : low < h = k .high-above h refl in
       settles d (round low (some h) b) low ((low + h) / 2) c o (λ f. digits-rise ((low + h) / 2 - low) (h - low) (omega arith) (omega arith))
 
-  proceeds : (d : ℕ) (r s : Round) → Kept p r → r .low < 2 ^ d → next p (ask p r) ≡ some s → Proceeds d r s
+  pub proceeds : (d : ℕ) (r s : Round) → Kept p r → r .low < 2 ^ d → next p (ask p r) ≡ some s → Proceeds d r s
   unfolding next ask after
   proceeds d r s k l e = go (query p C (r .budget) .outcome) refl e
     where

@@ -1,14 +1,14 @@
 -- Words in which the laws speak of tables, rounds and traces.
 use mathlib.Core.Path.{_≡_}
 use mathlib.Core.List.{List, [], _∷_, _++_, List·Memᴰ}
-use mathlib.Core.Option.{Option, some}
+use mathlib.Core.Option.{Option, none, some}
 use Prim.Native.Nat.{ℕ, _+_, _*_, _≤_, _<_}
 use lib.ListN.{length}
 use Rattle.model.specs.Problem.{Problem}
 use Rattle.model.specs.Paths.{Walk, places}
 use Rattle.model.specs.Costs.{Table, costAt, table}
 use Rattle.model.specs.Query.{Outcome, ended, over, found, nothing, query}
-use Rattle.model.specs.Rounds.{Round, Step, next, total}
+use Rattle.model.specs.Rounds.{Round, Step, ask, next, total}
 
 -- an entry of at most d
 pub record AtMost (entry : Option ℕ) (d : ℕ) : Type 0 where
@@ -64,3 +64,8 @@ pub record CutAt (allowance : ℕ) (ss : List Step) (s : Step) (n : ℕ) : Type 
   pub lasts : total earlier ≤ allowance
   pub exceeds : allowance < total earlier + s .query .cost
   pub counted : n ≡ length earlier + 1
+
+-- The queries from a round on, one after another, up to the one that finishes the search.
+pub data Run (p : Problem) : Round → List Step → Type 0 where
+  last : {r : Round} → next p (ask p r) ≡ none → Run p r (ask p r ∷ [])
+  more : {r s : Round} {ss : List Step} → next p (ask p r) ≡ some s → Run p s ss → Run p r (ask p r ∷ ss)
