@@ -30,7 +30,8 @@ use Rattle.model.specs.Costs.{Table, costAt, table}
 use Rattle.model.specs.Query.{Key, within, firstGoal, ended, over, found, nothing, queryOn, query}
 use Rattle.model.specs.Rounds.{Step, firstRound, ask, trace, total, search}
 use Rattle.model.specs.Routes.{routeTo}
-use Rattle.model.specs.Terms.{AtMost, IsWithin, Inside, Kept, Finished, LowNeverFalls, Closes, CutAt, Run}
+use Rattle.model.specs.Answer.{searched}
+use Rattle.model.specs.Terms.{AtMost, IsWithin, Inside, Kept, Finished, LowNeverFalls, Closes, CutAt, Run, SameProblem}
 use Rattle.model.proofs.Acceptance
 use Rattle.model.proofs.LeastCosts
 use Rattle.model.proofs.Keys
@@ -42,6 +43,7 @@ use Rattle.model.proofs.Traces
 use Rattle.model.proofs.Routes
 use Rattle.model.proofs.Admissible
 use Rattle.model.proofs.Allowance
+use Rattle.model.proofs.Same
 
 -- What acceptance gives: the problem of every accepted input is valid.
 pub accepted-valid : (input : List ℕ) (words bytes : ℕ) → Bytes input → Accepted input words bytes → Valid (problemOf (frame input .records))
@@ -225,3 +227,10 @@ module _ (p : Problem) (ok : Valid p) where
   -- With a larger allowance the cut moves only forward.
   pub cut-forward : (a b m n : ℕ) (s t : Step) → a ≤ b → CutAt a (trace p) s m → CutAt b (trace p) t n → (m ≤ n) × (s .round .low ≤ t .round .low)
   cut-forward a b m n s t h x y = Allowance.cut-forward (trace p) low-never-falls a b m n s t h x y
+
+-- ---- The order of arcs and goals has no part in it
+
+-- Two problems that differ only in the order and repetition of their arcs and goals end alike under every allowance.
+pub same-ending : (p q : Problem) → Valid p → Valid q → SameProblem p q → (a : ℕ)
+    → searched p (search p a) (search p a .spent) ≡ searched q (search q a) (search q a .spent)
+same-ending p q ok fine same a = Same.same-ending p q ok fine same a

@@ -16,4 +16,5 @@ pub mod Routes
 pub mod Admissible
 pub mod Allowance
 pub mod Sheets
+pub mod Same
 pub mod Laws

@@ -4,7 +4,7 @@ use mathlib.Core.List.{List, [], _∷_, _++_, List·Memᴰ}
 use mathlib.Core.Option.{Option, none, some}
 use Prim.Native.Nat.{ℕ, _+_, _*_, _≤_, _<_}
 use lib.ListN.{length}
-use Rattle.model.specs.Problem.{Problem}
+use Rattle.model.specs.Problem.{Problem, Arc, IsArc, IsGoal}
 use Rattle.model.specs.Paths.{Walk, places}
 use Rattle.model.specs.Costs.{Table, costAt, table}
 use Rattle.model.specs.Query.{Outcome, ended, over, found, nothing, query}
@@ -69,3 +69,14 @@ pub record CutAt (allowance : ℕ) (ss : List Step) (s : Step) (n : ℕ) : Type 
 pub data Run (p : Problem) : Round → List Step → Type 0 where
   last : {r : Round} → next p (ask p r) ≡ none → Run p r (ask p r ∷ [])
   more : {r s : Round} {ss : List Step} → next p (ask p r) ≡ some s → Run p s ss → Run p r (ask p r ∷ ss)
+
+-- The same problem up to the order of its arcs and goals: what is asked of the places of the one holds of those of the other.
+pub record SameProblem (p q : Problem) : Type 0 where
+  pub places : p .places ≡ q .places
+  pub estimate : (v : ℕ) → v < p .places → p .estimate v ≡ q .estimate v
+  pub start : p .start ≡ q .start
+  pub growth : p .growth ≡ q .growth
+  pub arc-to : (a : Arc) → IsArc p a → IsArc q a
+  pub arc-from : (a : Arc) → IsArc q a → IsArc p a
+  pub goal-to : (g : ℕ) → IsGoal p g → IsGoal q g
+  pub goal-from : (g : ℕ) → IsGoal q g → IsGoal p g
