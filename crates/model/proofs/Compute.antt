@@ -100,6 +100,7 @@ use Rattle.model.specs.Sheets.{
   readSheet,
   hostAnswer,
 }
+use Rattle.model.specs.Jobs.{putHead, putArc, putEstimate, putJob, shares, putChain, routeJob, noRouteJob}
 use Rattle.model.specs.Answer.{
   finished,
   searched,
@@ -126,5 +127,6 @@ unfolding
     firstRound limitOf closeIf settle after ask next goOn traceUpTo trace total begun search
     parentBy parent extend routeUpTo routeTo
     routeSheet noRouteSheet reading refusedRead impossible checked fitsRoute fitsNoRoute readRecord readFramed readSheet hostAnswer
+    putHead putArc putEstimate putJob shares putChain routeJob noRouteJob
     finished searched endingIf ending sheetOf answerOf overFront workAfter route
 compute = tt

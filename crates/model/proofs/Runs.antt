@@ -6,9 +6,7 @@ use mathlib.Core.Option.{Option, none, some}
 use Prim.Native.Nat.{ℕ}
 use lib.Dec.{eqb}
 use lib.ListN.{length, take, replicate}
-use Rattle.model.specs.Bytes.{put16, put32, put16s}
-use Rattle.model.specs.Framing.{putRecord}
-use Rattle.model.specs.Input.{headKind, arcKind, estimateKind, jobKind}
+use Rattle.model.specs.Jobs.{putHead, putArc, putEstimate, putJob}
 use Rattle.model.specs.Problem.{Problem}
 use Rattle.model.specs.Costs.{table}
 use Rattle.model.specs.Query.{nextLimit}
@@ -32,43 +30,31 @@ no-arc-leaves : nextLimit cycle (table cycle 2) ≡ none
 unfolding compute cycle
 no-arc-leaves = refl
 
-head : ℕ → ℕ → List ℕ
-head n m = putRecord headKind (put16 n ++ put16 m)
-
-arc : ℕ → ℕ → ℕ → List ℕ
-arc u v c = putRecord arcKind (put16 u ++ put16 v ++ put16 c)
-
-estimate : ℕ → ℕ → List ℕ
-estimate v h = putRecord estimateKind (put16 v ++ put32 h)
-
-job : ℕ → ℕ → List ℕ → List ℕ
-job start allowance goals = putRecord jobKind (put16 start ++ put32 allowance ++ put16 (length goals) ++ put16s goals)
-
 -- map A with the estimate h at place 1
 mapA : ℕ → List ℕ
 mapA h =
-    head 4 4 ++ arc 0 1 1 ++ arc 0 2 3 ++ arc 1 2 1 ++ arc 2 3 3
-    ++ estimate 0 0 ++ estimate 1 h ++ estimate 2 1 ++ estimate 3 0
+    putHead 4 4 ++ putArc 0 1 1 ++ putArc 0 2 3 ++ putArc 1 2 1 ++ putArc 2 3 3
+    ++ putEstimate 0 0 ++ putEstimate 1 h ++ putEstimate 2 1 ++ putEstimate 3 0
 
 -- P7 and P8
 pair : List ℕ
-pair = head 2 1 ++ arc 1 0 1
+pair = putHead 2 1 ++ putArc 1 0 1
 
 -- P9
 square : List ℕ
-square = head 4 4 ++ arc 0 1 1 ++ arc 0 2 1 ++ arc 1 3 1 ++ arc 2 3 1
+square = putHead 4 4 ++ putArc 0 1 1 ++ putArc 0 2 1 ++ putArc 1 3 1 ++ putArc 2 3 1
 
 -- P10
 hexagon : List ℕ
-hexagon = head 6 6 ++ arc 0 1 1 ++ arc 0 2 1 ++ arc 1 4 1 ++ arc 2 3 1 ++ arc 4 5 1 ++ arc 3 5 1
+hexagon = putHead 6 6 ++ putArc 0 1 1 ++ putArc 0 2 1 ++ putArc 1 4 1 ++ putArc 2 3 1 ++ putArc 4 5 1 ++ putArc 3 5 1
 
 -- three places at one cost from place 0
 star : List ℕ
-star = head 4 3 ++ arc 0 3 2 ++ arc 0 2 2 ++ arc 0 1 2
+star = putHead 4 3 ++ putArc 0 3 2 ++ putArc 0 2 2 ++ putArc 0 1 2
 
 -- place 1 is reached by the first arc, places 2 and 3 at less
 detour : List ℕ
-detour = head 4 3 ++ arc 0 1 5 ++ arc 0 2 1 ++ arc 2 3 1
+detour = putHead 4 3 ++ putArc 0 1 5 ++ putArc 0 2 1 ++ putArc 2 3 1
 
 -- One run. Of numbers (the first six of the answer), places and sheet bytes a row has those that document 01 states.
 record Run : Type 0 where
@@ -117,35 +103,35 @@ unstated = none
 runs : List Run
 runs =
     -- P1 to P4: map A under four allowances
-    run (mapA 4 ++ job 0 944 (3 ∷ [])) (numbers 0 5 10 0 16 10) (some (0 ∷ 1 ∷ 2 ∷ 3 ∷ [])) unstated
-    ∷ run (mapA 4 ++ job 0 16 (3 ∷ [])) (numbers 0 5 10 0 16 10) (some (0 ∷ 1 ∷ 2 ∷ 3 ∷ [])) unstated
-    ∷ run (mapA 4 ++ job 0 15 (3 ∷ [])) (numbers 16 0 0 5 15 10) unstated unstated
-    ∷ run (mapA 4 ++ job 0 0 (3 ∷ [])) (numbers 16 0 0 0 0 1) unstated unstated
+    run (mapA 4 ++ putJob 0 944 (3 ∷ [])) (numbers 0 5 10 0 16 10) (some (0 ∷ 1 ∷ 2 ∷ 3 ∷ [])) unstated
+    ∷ run (mapA 4 ++ putJob 0 16 (3 ∷ [])) (numbers 0 5 10 0 16 10) (some (0 ∷ 1 ∷ 2 ∷ 3 ∷ [])) unstated
+    ∷ run (mapA 4 ++ putJob 0 15 (3 ∷ [])) (numbers 16 0 0 5 15 10) unstated unstated
+    ∷ run (mapA 4 ++ putJob 0 0 (3 ∷ [])) (numbers 16 0 0 0 0 1) unstated unstated
     -- P5: an estimate that overstates
-    ∷ run (mapA 9 ++ job 0 944 (3 ∷ [])) (numbers 0 6 8 0 7 6) (some (0 ∷ 2 ∷ 3 ∷ [])) unstated
+    ∷ run (mapA 9 ++ putJob 0 944 (3 ∷ [])) (numbers 0 6 8 0 7 6) (some (0 ∷ 2 ∷ 3 ∷ [])) unstated
     -- P6: the start is the goal
-    ∷ run (mapA 4 ++ job 3 944 (3 ∷ [])) (numbers 0 0 0 0 0 1) (some (3 ∷ [])) unstated
+    ∷ run (mapA 4 ++ putJob 3 944 (3 ∷ [])) (numbers 0 0 0 0 0 1) (some (3 ∷ [])) unstated
     -- P7 and P8: no route
-    ∷ run (pair ++ job 0 1 (1 ∷ [])) (numbers 17 0 0 0 1 1) unstated noRouteFrom0
-    ∷ run (pair ++ estimate 0 7 ++ job 0 1 (1 ∷ [])) (numbers 17 0 14 0 1 1) unstated noRouteFrom0
+    ∷ run (pair ++ putJob 0 1 (1 ∷ [])) (numbers 17 0 0 0 1 1) unstated noRouteFrom0
+    ∷ run (pair ++ putEstimate 0 7 ++ putJob 0 1 (1 ∷ [])) (numbers 17 0 14 0 1 1) unstated noRouteFrom0
     -- P9: two equal ways, and the sheet's bytes
-    ∷ run (square ++ job 0 944 (3 ∷ [])) (numbers 0 2 2 0 10 6) (some (0 ∷ 1 ∷ 3 ∷ []))
+    ∷ run (square ++ putJob 0 944 (3 ∷ [])) (numbers 0 2 2 0 10 6) (some (0 ∷ 1 ∷ 3 ∷ []))
     (some (0x0C ∷ 0x00 ∷ 0x11 ∷ 0x00 ∷ 0x02 ∷ 0x00 ∷ 0x00 ∷ 0x00 ∷ 0x03 ∷ 0x00 ∷ 0x00 ∷ 0x00 ∷ 0x01 ∷ 0x00 ∷ 0x03 ∷ 0x00 ∷ []))
     -- P10: the comparison goes from the goal back
-    ∷ run (hexagon ++ job 0 1416 (5 ∷ [])) unstated (some (0 ∷ 2 ∷ 3 ∷ 5 ∷ [])) unstated
+    ∷ run (hexagon ++ putJob 0 1416 (5 ∷ [])) unstated (some (0 ∷ 2 ∷ 3 ∷ 5 ∷ [])) unstated
     ∷ []
 
 runs-agree : agree runs ≡ true
-unfolding compute head arc estimate job mapA pair square hexagon same stated six agrees agree numbers noRouteFrom0 run runs
+unfolding compute mapA pair square hexagon same stated six agrees agree numbers noRouteFrom0 run runs
 runs-agree = refl
 
 -- several goals: of equal ones the lowest-numbered, and the first in order, which is not the first generated
 goalRuns : List Run
 goalRuns =
-    run (star ++ job 0 944 (2 ∷ 3 ∷ [])) (numbers 0 2 4 0 6 5) (some (0 ∷ 2 ∷ [])) unstated
-    ∷ run (detour ++ job 0 944 (1 ∷ 3 ∷ [])) (numbers 0 2 2 0 5 4) (some (0 ∷ 2 ∷ 3 ∷ [])) unstated
+    run (star ++ putJob 0 944 (2 ∷ 3 ∷ [])) (numbers 0 2 4 0 6 5) (some (0 ∷ 2 ∷ [])) unstated
+    ∷ run (detour ++ putJob 0 944 (1 ∷ 3 ∷ [])) (numbers 0 2 2 0 5 4) (some (0 ∷ 2 ∷ 3 ∷ [])) unstated
     ∷ []
 
 goal-runs-agree : agree goalRuns ≡ true
-unfolding compute head arc estimate job star detour same stated six agrees agree numbers run goalRuns
+unfolding compute star detour same stated six agrees agree numbers run goalRuns
 goal-runs-agree = refl

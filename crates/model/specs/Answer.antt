@@ -54,7 +54,7 @@ pub record Answer : Type 0 where
   pub queries : ℕ
   pub sheet-bytes : ℕ
 
-abbrev answer : (number cost limit floor expansions queries sheet-bytes : ℕ) → Answer
+abbrev pub answer : (number cost limit floor expansions queries sheet-bytes : ℕ) → Answer
 answer n c l f e q b =
     record { number = n; cost = c; limit = l; floor = f; expansions = e; queries = q; sheet-bytes = b }
 

@@ -14,4 +14,5 @@ pub mod Rounds
 pub mod Routes
 pub mod Sheets
 pub mod Answer
+pub mod Jobs
 pub mod Terms
