@@ -42,18 +42,18 @@ abbrev keyAt : ℕ → ℕ → Key
 keyAt d v = record { cost = d; place = v }
 
 -- the keys of the places within whose cost is below d
-abbrev cheaper : Table → ℕ → List Key
+abbrev pub cheaper : Table → ℕ → List Key
 cheaper t d = filter (λ (k : Key). ltb (k .cost) d) (within t)
 
 -- the key of a place within is not below its own cost, and is below each larger one
 module _ (t : Table) where
-  cheaper-fewer : (d e v : ℕ) → costAt t v ≡ some d → d < e → length (cheaper t d) < length (cheaper t e)
+  pub cheaper-fewer : (d e v : ℕ) → costAt t v ≡ some d → d < e → length (cheaper t d) < length (cheaper t e)
   cheaper-fewer d e v i h =
       filter-fewer (λ (k : Key). ltb (k .cost) d) (λ (k : Key). ltb (k .cost) e)
       (λ k below. lt-ltb _ e (omega (arith, ltb-true (k .cost) d below)))
       (within t) (keyAt d v) (key-entry t (keyAt d v) .1 i) (le-ltb d d (le-refl d)) (lt-ltb d e h)
 
-  cheaper-shorter : (d v : ℕ) → costAt t v ≡ some d → length (cheaper t d) < length (within t)
+  pub cheaper-shorter : (d v : ℕ) → costAt t v ≡ some d → length (cheaper t d) < length (within t)
   cheaper-shorter d v i =
       filter-shorter (λ (k : Key). ltb (k .cost) d) (within t) (keyAt d v) (key-entry t (keyAt d v) .1 i) (le-ltb d d (le-refl d))
 

@@ -2,6 +2,7 @@ pub mod Compute
 pub mod Runs
 pub mod Lists
 pub mod Bytes
+pub mod Framing
 pub mod Indices
 pub mod Acceptance
 pub mod Relaxing
@@ -16,5 +17,6 @@ pub mod Routes
 pub mod Admissible
 pub mod Allowance
 pub mod Sheets
+pub mod RouteSheets
 pub mod Same
 pub mod Laws

@@ -122,10 +122,10 @@ places-end stay = ([], refl)
 places-end (on a i w) = (places w, refl)
 
 -- a path within C to v of cost d, with the places r
-record Along (p : Problem) (C v d : ℕ) (r : List ℕ) : Type 0 where
-  path : PathTo p v d
-  within : Within C path
-  in-order : places path ≡ r
+pub record Along (p : Problem) (C v d : ℕ) (r : List ℕ) : Type 0 where
+  pub path : PathTo p v d
+  pub within : Within C path
+  pub in-order : places path ≡ r
 
 parentBy-some : (a : Arc) (v : ℕ) (o e : Option ℕ) (u : ℕ) → parentBy a v o e ≡ some u
     → (d : ℕ) × (o ≡ some d) × (e ≡ some (d + a .cost)) × (a .to ≡ v) × (a .from ≡ u)
@@ -199,7 +199,7 @@ module _ (p : Problem) (ok : Valid p) (C : ℕ) where
       rw (← w .ends, ← w .sum) (record { path = on (w .arc) (w .is-arc) (b .path); within = (b .within, low); in-order = along })
 
   -- the table's route to a place within is a path within C, at the place's D
-  route-along : (k v d : ℕ) → costAt (table p C) v ≡ some d → d ≤ k → Along p C v d (routeUpTo k p (table p C) v)
+  pub route-along : (k v d : ℕ) → costAt (table p C) v ≡ some d → d ≤ k → Along p C v d (routeUpTo k p (table p C) v)
   unfolding routeUpTo extend
   route-along zero v d e h = start-along v d e (λ w. omega (arith, ok .cost-above (w .arc) (w .is-arc), w .sum))
   route-along (suc k) v d e h = go (parent p (table p C) v) refl (λ u b. route-along k u b)
@@ -215,7 +215,7 @@ module _ (p : Problem) (ok : Valid p) (C : ℕ) where
           along-via v d w (routeUpTo k p (table p C) u) (end-below (entry-path p C v d e)) (rw from along)
 
   -- a least path's part before its last arc is least
-  before-least : (a : Arc) (i : IsArc p a) (b : ℕ) (w : PathTo p (a .from) b) → Within C (on a i w)
+  pub before-least : (a : Arc) (i : IsArc p a) (b : ℕ) (w : PathTo p (a .from) b) → Within C (on a i w)
       → costAt (table p C) (a .to) ≡ some (b + a .cost) → costAt (table p C) (a .from) ≡ some b
   unfolding Within
   before-least a i b w h e =
