@@ -19,4 +19,7 @@ pub mod Allowance
 pub mod Sheets
 pub mod RouteSheets
 pub mod Same
+pub mod Endings
+pub mod Promises
 pub mod Laws
+pub mod Demands
