@@ -7,57 +7,25 @@ use mathlib.Core.List.{List, [], _∷_, _++_, List·Memᴰ}
 use Prim.Native.Nat.{ℕ, _+_, _*_, _≤_, _<_}
 use native.Mathlib.Nat.{le-trans}
 use native.Mathlib.Omega.{arith}
-use lib.ListN.{length, take}
+use lib.ListN.{length}
 use Rattle.model.specs.Numbers.{binaryDigits}
 use Rattle.model.specs.Bytes.{Bytes}
 use Rattle.model.specs.Framing.{frame}
-use Rattle.model.specs.Problem.{Problem, Valid}
 use Rattle.model.specs.Paths.{GoalReachable, Route, Cheapest, FirstCheapest, FirstWithin, Admissible}
-use Rattle.model.specs.Input.{problemOf, allowanceOf}
-use Rattle.model.specs.Refusals.{Row, rows, Accepted}
+use Rattle.model.specs.Refusals.{Row, rows}
 use Rattle.model.specs.Costs.{table}
 use Rattle.model.specs.Query.{within}
 use Rattle.model.specs.Rounds.{trace, total}
 use Rattle.model.specs.Sheets.{routeSheet, noRouteSheet, reading, readSheet}
-use Rattle.model.specs.Answer.{Result, answer, route}
-use Rattle.model.proofs.Acceptance.{accepted-valid}
+use Rattle.model.specs.Answer.{answer}
+use Rattle.model.specs.Calls.{Call, result, problem, allowance, written, IsAccepted}
+use Rattle.model.specs.Jobs.{routeJob, noRouteJob}
 use Rattle.model.proofs.Admissible.{admissible-total-2}
-use Rattle.model.proofs.Promises.{row-refuses, no-row-accepts, problem-growth, Ends, accepted-ends, ends-number}
+use Rattle.model.proofs.Promises.{row-refuses, no-row-accepts, problem-growth, ends, valid, ends-number}
 use Rattle.model.proofs.Promises.{spent-by-number, none-by-number, route-by-number}
 use Rattle.model.proofs.Promises.{spent-if-exceeded, none-if-unreachable, route-if-reachable, expansions-at-most}
+use Rattle.model.proofs.Realized.{IsWritten, accepted-route-written, accepted-no-route-written}
 use Rattle.model.proofs.Promises.{Says, sheet-says, first-sheet, none-sheet, equal-routes, equal-starts, never-equal}
-
--- A call: the input's bytes, and what the lent areas hold.
-pub record Call : Type 0 where
-  pub input : List ℕ
-  pub work : List ℕ
-  pub sheet : List ℕ
-  pub bytes : Bytes input
-
-module _ (c : Call) where
-  abbrev pub result : Result
-  result = route (c .input) (c .work) (c .sheet)
-
-  -- the problem and the allowance that the input states
-  abbrev pub problem : Problem
-  problem = problemOf (frame (c .input) .records)
-
-  abbrev pub allowance : ℕ
-  allowance = allowanceOf (frame (c .input) .records)
-
-  -- the sheet written: the first `sheet bytes` bytes of the sheet area
-  abbrev pub written : List ℕ
-  written = take (result .answer .sheet-bytes) (result .sheet)
-
-  abbrev pub IsAccepted : Type 0
-  IsAccepted = Accepted (c .input) (length (c .work)) (length (c .sheet))
-
--- how an accepted call ends: spent, no route or a route (Promises.antt says what each leaves)
-ends : (c : Call) → IsAccepted c → Ends (problem c) (allowance c) (result c)
-ends c A = accepted-ends (c .input) (c .work) (c .sheet) (c .bytes) A
-
-valid : (c : Call) → IsAccepted c → Valid (problem c)
-valid c A = accepted-valid (c .input) (length (c .work)) (length (c .sheet)) (c .bytes) A
 
 -- Demand 1: if the map, the job or the lent memory breaks a rule, the call ends with the number that document 01 gives, and every lent
 -- byte and word is as before.
@@ -124,6 +92,14 @@ demand-2 c A =
       no-route-read-back = λ n. none-by-number e n .read-back;
       within-limit = λ n. let f = route-by-number e n in record { places = f .places; first = f .first-within; on-sheet = f .on-sheet };
     }
+
+-- and the display accepts only bytes that some job could produce: each is the sheet of this job, which is accepted
+pub record DemandSheets (b : List ℕ) : Type 0 where
+  pub route : readSheet b .number ≡ 0 → (r : List ℕ) × IsWritten (routeJob (readSheet b .cost) r) b
+  pub no-route : readSheet b .number ≡ 17 → (start : ℕ) × IsWritten (noRouteJob start) b
+
+pub demand-sheets : (b : List ℕ) → Bytes b → DemandSheets b
+demand-sheets b B = record { route = accepted-route-written b B; no-route = accepted-no-route-written b B }
 
 -- the premises of demand 3
 pub record Surveyed (c : Call) : Type 0 where

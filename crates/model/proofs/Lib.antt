@@ -22,4 +22,9 @@ pub mod Same
 pub mod Endings
 pub mod Promises
 pub mod Laws
+pub mod Records
+pub mod PlainJobs
+pub mod PlainAccepted
+pub mod Chains
+pub mod Realized
 pub mod Demands

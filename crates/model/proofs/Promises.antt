@@ -21,6 +21,7 @@ use Rattle.model.specs.Costs.{table}
 use Rattle.model.specs.Rounds.{trace, total}
 use Rattle.model.specs.Routes.{routeTo}
 use Rattle.model.specs.Sheets.{routeSheet, noRouteSheet, reading, readSheet}
+use Rattle.model.specs.Calls.{Call, result, problem, allowance, IsAccepted}
 use Rattle.model.specs.Answer.{Ending, endingIf, ending, answer, sheetOf, answerOf, overFront, workAfter}
 use Rattle.model.specs.Answer.{Result, route}
 use Rattle.model.proofs.Lists.{any-false}
@@ -225,6 +226,13 @@ accepted-ends input work sheet B A =
     let ok = accepted-valid input (length work) (length sheet) B A in
     rw (accepted-ending input (length work) (length sheet) A)
     (result-ends p a ok (problem-growth input) (workWords (f .records)) work sheet _ (search-ends p a ok))
+
+-- how an accepted call ends: spent, no route or a route
+pub ends : (c : Call) → IsAccepted c → Ends (problem c) (allowance c) (result c)
+ends c A = accepted-ends (c .input) (c .work) (c .sheet) (c .bytes) A
+
+pub valid : (c : Call) → IsAccepted c → Valid (problem c)
+valid c A = accepted-valid (c .input) (length (c .work)) (length (c .sheet)) (c .bytes) A
 
 -- ---- What sheets say of problems
 

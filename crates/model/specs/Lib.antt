@@ -14,5 +14,6 @@ pub mod Rounds
 pub mod Routes
 pub mod Sheets
 pub mod Answer
+pub mod Calls
 pub mod Jobs
 pub mod Terms

@@ -1,0 +1,156 @@
+-- Every byte string that the reader accepts is the sheet of some accepted job. Assumes nothing.
+use mathlib.Core.Path.{_≡_, refl, sym, ap, ap₂, subst⁻¹, _∙_}
+use mathlib.Core.Bool.{Bool, true, false, cond}
+use mathlib.Core.List.{List, [], _∷_}
+use Prim.Native.Nat.{ℕ, suc, _+_, _*_, _≤_, _<_}
+use native.Mathlib.Nat.{le-of-eq}
+use native.Mathlib.Omega.{arith}
+use lib.Dec.{eqb}
+use lib.ListN.{length, getD, replicate, length-replicate}
+use borrow.Author.Tests.{eqb-true, eqb-false}
+use Rattle.model.specs.Bytes.{Bytes, put16}
+use Rattle.model.specs.Framing.{putRecord}
+use Rattle.model.specs.Paths.{GoalReachable, Route, Admissible}
+use Rattle.model.specs.Rounds.{trace, total}
+use Rattle.model.specs.Limits.{maxPlaces, maxArcs}
+use Rattle.model.specs.Problem.{Problem, Arc, Valid}
+use Rattle.model.specs.Sheets.{routeSheet, noRouteSheet, readSheet}
+use Rattle.model.specs.Jobs.{routeJob, noRouteJob, ample, putHead}
+use Rattle.model.proofs.Sheets.{Possible, accepted-route, accepted-no-route}
+use Rattle.model.proofs.Laws.{total-at-most-2}
+use Rattle.model.specs.Calls.{Call, IsAccepted, written, result, problem, allowance}
+use Rattle.model.proofs.Promises.{FindsRoute, ends, route-if-reachable, none-if-unreachable, spent-by-number}
+use Rattle.model.proofs.PlainJobs.{plain, putArcs, plainJob, plain-bytes, plain-framed, plain-states, plain-problem}
+use Rattle.model.proofs.PlainAccepted.{plain-accepted}
+use Rattle.model.proofs.Chains.{
+  headD-getD,
+  getLastD-getD,
+  chain,
+  chain-put,
+  chain-length,
+  shares-length,
+  plain-admissible,
+  steps,
+  stepCosts,
+  route-valid,
+  route-few,
+  route-reachable,
+  route-unique,
+  alone-valid,
+  alone-unreachable,
+}
+
+-- the call that lends just enough
+pub callOn : (input : List ℕ) → Bytes input → (arcs : ℕ) → Call
+callOn input b arcs =
+    record { input = input; work = replicate (16 * maxPlaces + 2 * arcs) 0; sheet = replicate (10 + 2 * maxPlaces) 0; bytes = b }
+
+-- the bytes b are the sheet that an accepted call writes for this job
+pub record IsWritten (job b : List ℕ) : Type 0 where
+  pub call : Call
+  pub is-job : call .input ≡ job
+  pub accepted : IsAccepted call
+  pub on-sheet : written call ≡ b
+
+-- A job of a plain problem, called on with just enough.
+module _ (input : List ℕ) (arcs : List Arc) (start goal : ℕ) (is : input ≡ plainJob arcs start goal)
+    (few : length arcs ≤ maxArcs) (ok : Valid (plain arcs start goal)) where
+  plainCall : Call
+  plainCall = callOn input (rw is (plain-bytes arcs start goal)) (length arcs)
+
+  call-accepted : IsAccepted plainCall
+  unfolding plainCall callOn
+  call-accepted =
+      let words = le-of-eq (sym (length-replicate {A = ℕ} (16 * maxPlaces + 2 * length arcs) 0)) in
+      let bytes = le-of-eq (sym (length-replicate {A = ℕ} (10 + 2 * maxPlaces) 0)) in
+      rw is (plain-accepted arcs start goal few ok _ _ words bytes)
+
+  call-problem : problem plainCall ≡ plain arcs start goal
+  unfolding plainCall callOn
+  call-problem = rw (is, plain-framed arcs start goal) (plain-problem arcs start goal few ok)
+
+  call-allowance : allowance plainCall ≡ ample
+  unfolding plainCall callOn
+  call-allowance = rw (is, plain-framed arcs start goal) (plain-states arcs start goal few ok .allowance)
+
+  -- 236 for each place lasts
+  call-lasts : total (trace (problem plainCall)) ≤ allowance plainCall
+  unfolding plain
+  call-lasts = rw (call-problem, call-allowance) (total-at-most-2 (plain arcs start goal) ok refl)
+
+  call-ample : 236 * problem plainCall .places ≤ allowance plainCall
+  unfolding plain
+  call-ample = rw (call-problem, call-allowance) (omega arith)
+
+  -- where every route is the same one, it is the one on the sheet
+  only-route-written : (cost : ℕ) (r : List ℕ) → GoalReachable (plain arcs start goal)
+      → ((c : ℕ) (s : List ℕ) → Route (plain arcs start goal) c s → (c ≡ cost) × (s ≡ r)) → IsWritten input (routeSheet cost r)
+  unfolding plainCall callOn
+  only-route-written cost r reachable only =
+      let admissible : Admissible (problem plainCall) = rw call-problem (plain-admissible arcs start goal) in
+      let some : GoalReachable (problem plainCall) = rw call-problem reachable in
+      from-sheet admissible (route-if-reachable (ends plainCall call-accepted) call-lasts some)
+    where
+      from-sheet : Admissible (problem plainCall) → FindsRoute (problem plainCall) (allowance plainCall) (result plainCall) → IsWritten input (routeSheet cost r)
+      from-sheet admissible sheet =
+          let same = only (result plainCall .answer .cost) (sheet .places) (rw call-problem at (sheet .first-cheapest admissible .first .member)) in
+          record { call = plainCall; is-job = refl; accepted = call-accepted; on-sheet = sheet .on-sheet ∙ ap₂ routeSheet (same .0) (same .1) }
+
+  unreachable-written : (GoalReachable (plain arcs start goal) → ⊥) → IsWritten input (noRouteSheet start)
+  unfolding plain plainCall callOn
+  unreachable-written unreachable =
+      let e = ends plainCall call-accepted in
+      let none : GoalReachable (problem plainCall) → ⊥ = rw call-problem unreachable in
+      let unspent : result plainCall .answer .number ≡ 16 → ⊥ = λ n. let s = spent-by-number e n in let enough = call-ample in omega arith in
+      let started : problem plainCall .start ≡ start = ap (λ (p : Problem). p .start) call-problem in
+      record { call = plainCall; is-job = refl; accepted = call-accepted; on-sheet = none-if-unreachable e unspent none .on-sheet ∙ ap noRouteSheet started }
+
+-- the job of a route is that of its chain
+route-job : (cost : ℕ) (places : List ℕ) → Possible cost places
+    → routeJob cost places ≡ plainJob (chain places (stepCosts cost places)) (getD places 0 0) (getD places (steps places) 0)
+unfolding routeJob plainJob
+route-job cost places h =
+    let n : ℕ = steps places in
+    let more : length places ≡ suc n = omega (arith, h .some-place) in
+    let costs-length : length (stepCosts cost places) ≡ n = shares-length n cost in
+    let arcs-length : length (chain places (stepCosts cost places)) ≡ n = chain-length places (stepCosts cost places) (omega arith) ∙ costs-length in
+    rw (arcs-length, chain-put, headD-getD, getLastD-getD places n more)
+
+pub route-written : (cost : ℕ) (places : List ℕ) → Possible cost places → IsWritten (routeJob cost places) (routeSheet cost places)
+route-written cost places h =
+    only-route-written (routeJob cost places) (chain places (stepCosts cost places)) (getD places 0 0) (getD places (steps places) 0)
+    (route-job cost places h) (route-few cost places h) (route-valid cost places h)
+    cost places (route-reachable cost places h) (route-unique cost places h)
+
+-- a place other than the start
+abbrev elsewhere : ℕ → ℕ
+elsewhere start = cond (eqb start 0) 1 0
+
+elsewhere-is : (start : ℕ) → (elsewhere start < maxPlaces) × (elsewhere start ≡ start → ⊥)
+elsewhere-is start = go (eqb start 0) refl
+  where
+    go : (t : Bool) → eqb start 0 ≡ t → (cond t 1 0 < maxPlaces) × (cond t 1 0 ≡ start → ⊥)
+    go true e = (omega arith, λ q. omega (arith, eqb-true start 0 e))
+    go false e = (omega arith, λ q. eqb-false start 0 e (sym q))
+
+-- the job with no arc is that of a chain of one place
+no-route-job : (start : ℕ) → noRouteJob start ≡ plainJob (chain (start ∷ []) []) start (elsewhere start)
+unfolding noRouteJob plainJob putHead putRecord put16 chain putArcs
+no-route-job start = refl
+
+pub no-route-written : (start : ℕ) → start < maxPlaces → IsWritten (noRouteJob start) (noRouteSheet start)
+unfolding chain
+no-route-written start h =
+    let (below, other) = elsewhere-is start in
+    unreachable-written (noRouteJob start) [] start (elsewhere start)
+    (no-route-job start) (omega arith) (alone-valid start (elsewhere start) h below) (alone-unreachable start (elsewhere start) other)
+
+pub accepted-route-written : (b : List ℕ) → Bytes b → readSheet b .number ≡ 0 → (r : List ℕ) × IsWritten (routeJob (readSheet b .cost) r) b
+accepted-route-written b B e =
+    let s = accepted-route b B e in
+    (s .places, subst⁻¹ (λ x. IsWritten (routeJob (readSheet b .cost) (s .places)) x) (s .written) (route-written _ (s .places) (s .can-be)))
+
+pub accepted-no-route-written : (b : List ℕ) → Bytes b → readSheet b .number ≡ 17 → (start : ℕ) × IsWritten (noRouteJob start) b
+accepted-no-route-written b B e =
+    let s = accepted-no-route b B e in
+    (s .start, subst⁻¹ (λ x. IsWritten (noRouteJob (s .start)) x) (s .written) (no-route-written (s .start) (s .can-be)))
