@@ -11,6 +11,7 @@ use lib.Dec.{leb}
 use borrow.Author.Tests.{le-leb, leb-true}
 use Rattle.model.specs.Bytes.{Bytes, u16, u32, u16s, put16, put32, put16s}
 use Rattle.model.specs.Framing.{Record, Framed, stop, push, frame, frameUpTo, putRecord}
+use Rattle.model.proofs.Framing.{frameUpTo-step}
 
 pub take-bytes : (n : ℕ) (b : List ℕ) → Bytes b → Bytes (take n b)
 take-bytes zero b B i = omega arith
@@ -108,15 +109,6 @@ put16s-u16s (suc n) b i h l =
     let rest = put16s-u16s n b (i + 2) h (omega arith) in
     let more : 2 * suc n ≡ 2 + 2 * n = omega arith in
     rw (low, rest, more, ← drop-drop 2 i b) (sym (take-add 2 (2 * n) (drop i b)))
-
--- one step of the framing
-module _ (k a b c d : ℕ) (rest : List ℕ) where
-  frameUpTo-step : frameUpTo (suc k) (a ∷ b ∷ c ∷ d ∷ rest)
-      ≡ cond (leb (a + 256 * b) (length rest))
-      (push (record { kind = c + 256 * d; body = take (a + 256 * b) rest }) (frameUpTo k (drop (a + 256 * b) rest)))
-      (stop true)
-  unfolding frameUpTo
-  frameUpTo-step = refl
 
 frameUpTo-end : (k : ℕ) → frameUpTo k [] ≡ stop false
 unfolding frameUpTo

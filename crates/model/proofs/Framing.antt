@@ -9,6 +9,15 @@ use lib.Dec.{leb}
 use lib.ListN.{length, take, drop, length-drop}
 use Rattle.model.specs.Framing.{Record, Framed, stop, push, frameUpTo, frame}
 
+-- one step
+module _ (k a b c d : ℕ) (rest : List ℕ) where
+  pub frameUpTo-step : frameUpTo (suc k) (a ∷ b ∷ c ∷ d ∷ rest)
+      ≡ cond (leb (a + 256 * b) (length rest))
+      (push (record { kind = c + 256 * d; body = take (a + 256 * b) rest }) (frameUpTo k (drop (a + 256 * b) rest)))
+      (stop true)
+  unfolding frameUpTo
+  frameUpTo-step = refl
+
 same-fuel : (j k : ℕ) (bs : List ℕ) → length bs ≤ j → length bs ≤ k → frameUpTo j bs ≡ frameUpTo k bs
 unfolding frameUpTo
 same-fuel zero zero bs h g = refl

@@ -1,8 +1,8 @@
 pub mod Compute
 pub mod Runs
 pub mod Lists
-pub mod Bytes
 pub mod Framing
+pub mod Bytes
 pub mod Indices
 pub mod Acceptance
 pub mod Relaxing

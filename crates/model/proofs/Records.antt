@@ -10,6 +10,7 @@ use lib.Dec.{leb}
 use borrow.Author.Tests.{le-leb}
 use Rattle.model.specs.Bytes.{Bytes, put16, put32, put16s}
 use Rattle.model.specs.Framing.{Record, Framed, stop, push, frame, frameUpTo, putRecord}
+use Rattle.model.proofs.Framing.{frameUpTo-step}
 
 -- a number that two bytes hold is read back from them
 pub two-bytes : (n : ℕ) → n < 65536 → n % 256 + 256 * (n / 256 % 256) ≡ n
@@ -68,15 +69,6 @@ putRecords-is-bytes (r ∷ rs) fit =
     let front : Bytes (n ++ k) = append-bytes n k (put16-is-bytes _) (put16-is-bytes _) in
     let one : Bytes (n ++ k ++ r .body) = append-bytes (n ++ k) (r .body) front (fit r (List·Memᴰ·head refl) .bytes) in
     append-bytes (n ++ k ++ r .body) (putRecords rs) one (putRecords-is-bytes rs (λ s i. fit s (List·Memᴰ·tail i)))
-
--- one step of the framing
-module _ (k a b c d : ℕ) (rest : List ℕ) where
-  frameUpTo-step : frameUpTo (suc k) (a ∷ b ∷ c ∷ d ∷ rest)
-      ≡ cond (leb (a + 256 * b) (length rest))
-      (push (record { kind = c + 256 * d; body = take (a + 256 * b) rest }) (frameUpTo k (drop (a + 256 * b) rest)))
-      (stop true)
-  unfolding frameUpTo
-  frameUpTo-step = refl
 
 -- the bytes of a record are framed as it, and then the rest
 frame-first : (k kind : ℕ) (body rest : List ℕ) → kind < 65536 → length body < 65536
