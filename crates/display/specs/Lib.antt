@@ -1,0 +1,2 @@
+-- What the display shows of a number and of a sheet.
+pub mod Shown
