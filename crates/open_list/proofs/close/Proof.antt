@@ -1,0 +1,46 @@
+-- A place in hand is let go. Any other is closed in the tree, and the hand stays as it is.
+-- Assumes nothing.
+use native.Mathlib.Omega.{arith}
+use borrow.Author.Needs.{needs}
+use Rattle.open_list.proofs.Structure as structure
+use Rattle.open_list.proofs.close.Statement.{statement}
+use Rattle.open_list.proofs.close.Tie as tie
+
+place-requires : tie.Need-place-requires
+place-requires c κs = search needs
+
+wide-requires : tie.Need-wide-requires
+wide-requires c κs = search needs
+
+empty-requires : tie.Need-empty-requires
+empty-requires c κs = search needs
+
+returns : tie.Need-returns
+returns c =
+    let start = c .before .before .before .before .before in
+    structure.lets-go _ _ _ _ _ (start .pre) (omega arith) (c .empty .ensures)
+
+close-requires : tie.Need-close-requires
+close-requires c κs =
+    let start = c .before .before .before .before .before in
+    structure.tree-place _ _ _ _ (start .pre .list) (start .pre .place-in)
+
+same-length : tie.Need-same-length
+same-length c = search needs
+
+returns-2 : tie.Need-returns-2
+returns-2 c =
+    let start = c .before .before .before .before .before .before .before .before in
+    structure.tree-put _ _ _ _ _ _ (start .pre .list) (omega arith) (c .before .before .close .ensures)
+
+pub close-spec : {M : Type 1} → statement M
+close-spec =
+    tie.close
+    (tie.spec
+    place-requires
+    wide-requires
+    empty-requires
+    returns
+    close-requires
+    same-length
+    returns-2)

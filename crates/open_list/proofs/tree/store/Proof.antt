@@ -1,0 +1,50 @@
+-- Both words of the node are those of the entry.
+-- Assumes nothing.
+use borrow.Author.Needs.{needs}
+use Rattle.open_list.proofs.tree.store.Statement.{statement}
+use Rattle.open_list.proofs.tree.store.Tie as tie
+
+add-w : tie.Need-add-w
+add-w c = search needs
+
+place-requires : tie.Need-place-requires
+place-requires c κs = search needs
+
+mul-words : tie.Need-mul-words
+mul-words c = search needs
+
+slice-write-words : tie.Need-slice-write-words
+slice-write-words c = search needs
+
+key-requires : tie.Need-key-requires
+key-requires c κs = search needs
+
+add-words : tie.Need-add-words
+add-words c = search needs
+
+mul-words-2 : tie.Need-mul-words-2
+mul-words-2 c = search needs
+
+slice-write-words-2 : tie.Need-slice-write-words-2
+slice-write-words-2 c = search needs
+
+same-length : tie.Need-same-length
+same-length c = search needs
+
+returns : tie.Need-returns
+returns c = rw (c .before .place .ensures, c .key .ensures)
+
+pub store-spec : {M : Type 1} → statement M
+store-spec =
+    tie.close
+    (tie.spec
+    add-w
+    place-requires
+    mul-words
+    slice-write-words
+    key-requires
+    add-words
+    mul-words-2
+    slice-write-words-2
+    same-length
+    returns)

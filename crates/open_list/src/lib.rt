@@ -1,0 +1,91 @@
+// The open list of a search: a key for each place that is open. A place is inserted or its key decreased (`lower`), a place is removed
+// (`close`), and the least key is found with the lowest place that has it (`least`).
+//
+// Callers reason over the list of keys alone (specs/Keys.antt, proofs/Laws.antt). Behind it stands a tournament tree, eight-fold, over
+// blocks of eight keys (src/tree.rt), in words that the caller lends, and one place in hand, a number that the caller carries from call
+// to call: the place's key * 2^32 + the place.
+//
+// Each operation but `clear` takes time logarithmic in the number of places; `clear` takes linear time. A place that comes in first of
+// all while the hand is empty is kept in hand, and leaves it again, without a change of the tree: this saves nearly all the work on the
+// tree in searches with few open places.
+ghost use mathlib.Core.Path.{_≡_};
+ghost use Rattle.open_list.specs.Entry.{placeOf, keyOf, noKey};
+ghost use Rattle.open_list.specs.Keys.{OpenList, Least, Lowers, Closes, Put, Cleared, keysOf, emptyHand};
+ghost use Rattle.open_list.specs.Size.{Places, Enough, Shape};
+
+mod entry;
+mod tree;
+
+// The key of a place that is not open.
+pub const NONE: u32 = 0xFFFF_FFFF;
+
+// The hand with nothing in it: no key, and a place beyond all.
+const EMPTY: u64 = 18446744073709551615;
+
+// How many nodes the tree needs for so many places: one node has 8 keys, and each 8 nodes more have 56 keys more. The list then needs
+// 9 * nodes + 1 words.
+pub fn nodes(places: usize) -> usize
+    requires { ⌜ Places places ⌝ }
+    ensures { λ r. ⌜ Enough places r ⌝ }
+{
+    8 * ((places + 47) / 56) + 1
+}
+
+// Nothing in hand.
+pub fn empty() -> u64
+    ensures { λ r. ⌜ r ≡ emptyHand ⌝ }
+{
+    EMPTY
+}
+
+// No place is open; the hand is empty.
+pub fn clear(words: &mut [u32], m: usize)
+    requires { ⌜ Shape m (now words) ⌝ }
+    ensures { λ _. ⌜ Cleared m (now (words .exit)) ⌝ }
+{
+    tree::clear(words, m);
+}
+
+// The place is open with this key, which is none above the one that it has.
+pub fn lower(words: &mut [u32], m: usize, hand: u64, place: usize, key: u32) -> u64
+    requires { ⌜ Lowers m hand place key (now words) ⌝ }
+    ensures { λ r. ⌜ Put m place key hand (now (words .entry)) r (now (words .exit)) ⌝ }
+{
+    let x = entry::pair(place, key);
+    if entry::wide(entry::place(hand)) == place {
+        return x;
+    }
+    // The empty hand takes what comes in first of all.
+    if entry::key(hand) == NONE {
+        let root = tree::least(words, m);
+        if x < root {
+            let k = tree::key(words, m, place);
+            if k == NONE {
+                return x;
+            }
+        }
+    }
+    tree::lower(words, m, place, key);
+    hand
+}
+
+// The place is open no more.
+pub fn close(words: &mut [u32], m: usize, hand: u64, place: usize) -> u64
+    requires { ⌜ Closes m hand place (now words) ⌝ }
+    ensures { λ r. ⌜ Put m place noKey hand (now (words .entry)) r (now (words .exit)) ⌝ }
+{
+    if entry::wide(entry::place(hand)) == place {
+        return empty();
+    }
+    tree::close(words, m, place);
+    hand
+}
+
+// The least key, and the lowest place that has it, as one number: key * 2^32 + place. The key is NONE where no place is open.
+pub fn least(words: &[u32], m: usize, hand: u64) -> u64
+    requires { ⌜ OpenList m hand (now words) ⌝ }
+    ensures { λ r. ⌜ Least (keysOf m hand (now (words .entry))) (placeOf r) (keyOf r) ⌝ }
+{
+    let root = tree::least(words, m);
+    if hand < root { hand } else { root }
+}
