@@ -1,0 +1,27 @@
+-- Fields of a part of a list of bytes are fields of the whole. Assumes nothing.
+use mathlib.Core.Path.{_≡_, refl, ap₂}
+use mathlib.Core.List.{List, _∷_}
+use Prim.Native.Nat.{ℕ, zero, suc, _+_, _<_}
+use native.Mathlib.Omega.{arith}
+use native.Mathlib.Nat.{add-assoc}
+use lib.ListN.{take, drop}
+use lib.Seq.{getD-take, getD-drop}
+use Rattle.model.specs.Bytes.{u16, u32, u16s}
+
+module _ (n : ℕ) (b : List ℕ) where
+  pub u16-drop : (i j : ℕ) → j ≡ n + i → u16 (drop n b) i ≡ u16 b j
+  unfolding u16
+  u16-drop i j e = rw (e, getD-drop n b i 0, getD-drop n b (i + 1) 0, add-assoc)
+
+  pub u16-take : (i : ℕ) → i + 1 < n → u16 (take n b) i ≡ u16 b i
+  unfolding u16
+  u16-take i h = rw (getD-take n b i 0 (omega arith), getD-take n b (i + 1) 0 h)
+
+  pub u32-drop : (i j : ℕ) → j ≡ n + i → u32 (drop n b) i ≡ u32 b j
+  unfolding u32
+  u32-drop i j e = rw (u16-drop i j e, u16-drop (i + 2) (j + 2) (omega arith))
+
+  pub u16s-drop : (k i j : ℕ) → j ≡ n + i → u16s k (drop n b) i ≡ u16s k b j
+  unfolding u16s
+  u16s-drop zero i j e = refl
+  u16s-drop (suc k) i j e = ap₂ (λ (x : ℕ) (xs : List ℕ). x ∷ xs) (u16-drop i j e) (u16s-drop k (i + 2) (j + 2) (omega arith))

@@ -1,0 +1,49 @@
+// Records of the input, one after another.
+ghost use mathlib.Core.Path.{_≡_};
+ghost use Prim.Native.Nat.{_≤_};
+ghost use lib.ListN.{length};
+ghost use Rattle.map.specs.Records.{readAt};
+
+pub const HEAD: u16 = 1;
+
+pub const ARC: u16 = 2;
+
+pub const ESTIMATE: u16 = 3;
+
+pub const JOB: u16 = 4;
+
+// A whole record: its kind, and where its body stands. The next one begins where the body ends.
+pub struct Record {
+    pub kind: u16,
+    pub start: usize,
+    pub end: usize,
+}
+
+pub enum Read {
+    Whole(Record),
+    Broken,
+    End,
+}
+
+// What stands at a position where a record should begin.
+pub fn read_at(input: &[u8], at: usize) -> Read
+    requires { ⌜ at ≤ length (now input) ⌝ }
+    ensures { λ r. ⌜ r ≡ readAt (now (input .entry)) at ⌝ }
+{
+    let left = input.len() - at;
+    if left == 0 {
+        return Read::End;
+    }
+    if left < 4 {
+        return Read::Broken;
+    }
+    let len = area::index(area::u16_at(input, at));
+    if left - 4 < len {
+        return Read::Broken;
+    }
+    Read::Whole(Record {
+        kind: area::u16_at(input, at + 2),
+        start: at + 4,
+        end: at + 4 + len,
+    })
+}
