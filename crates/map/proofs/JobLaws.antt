@@ -82,7 +82,7 @@ module _ (input : List ℕ) (map : Map) (at : ℕ) (marks : List ℕ) (j : OneJo
             go false h = rw (h refl)
 
         pub goals-refused : (words bytes : ℕ) → n ≢ 0 → Judged input words bytes (Refused n)
-        goals-refused words bytes h = refused input words bytes n (j .number words bytes ∙ given _ _ n (sym job-same) h)
+        goals-refused words bytes h = refused input words bytes n (j .number words bytes ∙ given _ _ n (sym job-same) h) h
 
         -- 14 and 15
         module _ (none : n ≡ 0) (words bytes r : ℕ)
@@ -92,8 +92,8 @@ module _ (input : List ℕ) (map : Map) (at : ℕ) (marks : List ℕ) (j : OneJo
           room-same =
               j .number words bytes ∙ not-given _ _ (sym job-same ∙ none) ∙ sym (rw (j .places, j .arcs) at room)
 
-          pub room-refused : Judged input words bytes (Refused r)
-          room-refused = refused input words bytes r room-same
+          pub room-refused : r ≢ 0 → Judged input words bytes (Refused r)
+          room-refused h = refused input words bytes r room-same h
 
           pub accepted : r ≡ 0 → (s a : ℕ) → s ≡ u16 input at → a ≡ u32 input (at + 2)
               → Judged input words bytes (Accepted (record { map = map; start = s; allowance = a; goals = k; «goals_at» = at + 8 }))
@@ -110,5 +110,6 @@ module _ (input : List ℕ) (map : Map) (at : ℕ) (marks : List ℕ) (j : OneJo
               } in
               record {
                 number = sym (room-same ∙ fits);
+                some-number = λ n e. let z : _≡_ {A = ℕ} 0 1 = cc in absurd (omega arith);
                 states = λ i e. let same : job ≡ i = cc in rw same at states;
               }

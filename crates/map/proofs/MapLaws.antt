@@ -26,8 +26,8 @@ use Rattle.model.specs.Limits.{maxPlaces, maxArcs}
 use Rattle.model.specs.Refusals.{broken, unknownKind, wrongLength, endsWith, wrongHead, wrongSize, freeArc, largeEstimate, twoEstimates, wrongJob, refusal}
 use Rattle.model.proofs.Lists.{or-false}
 
-pub refused : (input : List ℕ) (words bytes n : ℕ) → refusal (frame input) words bytes ≡ n → Judged input words bytes (Refused n)
-refused input words bytes n e = record { number = sym e; states = λ j f. let z : _≡_ {A = ℕ} 0 1 = cc in absurd (omega arith) }
+pub refused : (input : List ℕ) (words bytes n : ℕ) → refusal (frame input) words bytes ≡ n → n ≢ 0 → Judged input words bytes (Refused n)
+refused input words bytes n e h = record { number = sym e; some-number = λ m f. let same : n ≡ m = cc in omega (arith, h); states = λ j f. let z : _≡_ {A = ℕ} 0 1 = cc in absurd (omega arith) }
 
 -- 1 to 4
 module _ (input : List ℕ) (s : Survey) (v : Surveyed input s) where
@@ -38,7 +38,7 @@ module _ (input : List ℕ) (s : Survey) (v : Surveyed input s) where
   module _ (n : ℕ) (is : n ≡ formNumber (s .broken) (s .unknown) (s .misfit) (not (s .«head_first») || ltb 1 (s .heads))) where
     pub form-refused : (words bytes : ℕ) → n ≢ 0 → Judged input words bytes (Refused n)
     form-refused words bytes h =
-        refused input words bytes n (refusal-groups (frame input) words bytes ∙ given _ _ n (sym survey-form ∙ sym is) h)
+        refused input words bytes n (refusal-groups (frame input) words bytes ∙ given _ _ n (sym survey-form ∙ sym is) h) h
 
     pub formed : n ≡ 0 → Formed input s
     formed e = record { surveyed = v; number = sym survey-form ∙ sym is ∙ e }
@@ -88,7 +88,7 @@ module _ (input : List ℕ) (s : Survey) (f : Formed input s) where
     pub size-refused : (words bytes : ℕ) → sizeWrong (map .places) (map .arcs) (s .arcs) ≡ true → Judged input words bytes (Refused 5)
     size-refused words bytes e =
         let five = ap {B = ℕ} (λ (t : Bool). cond t 5 0) (sym size-same ∙ e) in
-        refused input words bytes 5 (after-form words bytes ∙ given _ _ 5 five λ z. omega arith)
+        refused input words bytes 5 (after-form words bytes ∙ given _ _ 5 five λ z. omega arith) (λ z. omega arith)
 
     pub sized : sizeWrong (map .places) (map .arcs) (s .arcs) ≡ false → Sized input map
     sized e =
@@ -130,7 +130,7 @@ module _ (input : List ℕ) (map : Map) (z : Sized input map) where
         go false h = rw (h refl)
 
     pub fields-refused : (words bytes : ℕ) → n ≢ 0 → Judged input words bytes (Refused n)
-    fields-refused words bytes h = refused input words bytes n (z .number words bytes ∙ given _ _ n (sym fields-same) h)
+    fields-refused words bytes h = refused input words bytes n (z .number words bytes ∙ given _ _ n (sym fields-same) h) h
 
     module _ (none : n ≡ 0) (s : Survey) (v : Surveyed input s) where
       after-fields : (words bytes : ℕ)
@@ -143,7 +143,7 @@ module _ (input : List ℕ) (map : Map) (z : Sized input map) where
       job-refused words bytes e =
           let wrong : wrongJob (frame input .records) ≡ true = rw (← v .jobs, ← v .job-last) e in
           let ten = ap {B = ℕ} (λ (t : Bool). cond t 10 0) wrong in
-          refused input words bytes 10 (after-fields words bytes ∙ given _ _ 10 ten λ y. omega arith)
+          refused input words bytes 10 (after-fields words bytes ∙ given _ _ 10 ten λ y. omega arith) (λ y. omega arith)
 
       pub one-job : s .broken ≡ false → (not (eqb (s .jobs) 1) || not (s .«job_last»)) ≡ false → OneJob input map (s .«last_at») marks
       unfolding wrongJob

@@ -1,7 +1,7 @@
 -- What a judgement says: document 01's number, and of an accepted input what its head and its job state.
 use mathlib.Core.Path.{_≡_}
 use mathlib.Core.List.{List}
-use Prim.Native.Nat.{ℕ, _+_, _*_}
+use Prim.Native.Nat.{ℕ, _+_, _*_, _≤_}
 use lib.ListN.{length}
 use Rattle.map.specs.declared.Job.{Job}
 use Rattle.map.specs.declared.Judgement.{Judgement}
@@ -26,4 +26,5 @@ pub record States (input : List ℕ) (j : Job) : Type 0 where
 
 pub record Judged (input : List ℕ) (words bytes : ℕ) (r : Judgement) : Type 0 where
   pub number : numberOf r ≡ refusal (frame input) words bytes
+  pub some-number : (n : ℕ) → r ≡ Refused n → 1 ≤ n
   pub states : (j : Job) → r ≡ Accepted j → States input j

@@ -45,7 +45,7 @@ returns-2 : tie.Need-returns-2
 returns-2 c =
     let d = c .before .before .before in
     room-refused _ _ _ _ (d .before .before .before .before .before .before .before .before .before .before .pre) _ (d .before .before .before .before .before .before .index .ensures .0 ∙ d .before .before .before .before .before .before .before .u16-at2 .ensures) _ (d .before .before .before .before .before .of .ensures) _
-    (d .before .before .before .before .index2 .ensures .0 ∙ d .before .before .before .before .before .before .before .before .u16-at .ensures) _ (d .before .wrong-goals .ensures) _ (d .job-number .ensures) (c .before .before .if1 .left) _ _ _ (c .before .room-number .ensures)
+    (d .before .before .before .before .index2 .ensures .0 ∙ d .before .before .before .before .before .before .before .before .u16-at .ensures) _ (d .before .wrong-goals .ensures) _ (d .job-number .ensures) (c .before .before .if1 .left) _ _ _ (c .before .room-number .ensures) (c .if2 .taken)
 
 wide16-requires : tie.Need-wide16-requires
 wide16-requires c κs = search needs

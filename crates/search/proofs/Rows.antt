@@ -1,0 +1,239 @@
+-- Labels and rows of arcs in the words of the area: the arc at an index, the arcs passed, and that all depends on the words of the map.
+-- Assumes nothing.
+use mathlib.Core.Path.{_≡_, refl, sym, ap, _∙_, fun-ext}
+use mathlib.Core.Bool.{Bool, cond, not}
+use mathlib.Core.List.{List, [], _∷_, _++_, map, append-nil, append-assoc, map-append, List·Memᴰ, List·Memᴰ·head, List·Memᴰ·tail}
+use mathlib.Core.List.{Memᴰ·append-left, Memᴰ·append-right, Memᴰ·map, Memᴰ·cast}
+use mathlib.Core.Option.{Option, none, some}
+use Prim.Native.Nat.{ℕ, zero, suc, _+_, _-_, _/_, _≤_, _<_}
+use native.Mathlib.Decide.{ℕ-discrete}
+use native.Mathlib.Omega.{arith}
+use lib.Dec.{ltb, eqb}
+use lib.ListN.{length, getD, take, drop, length-take, length-drop, List·getD-map}
+use lib.Seq.{getD-take, getD-drop, drop-drop, take-suc}
+use borrow.Author.Tests.{lt-ltb}
+use Rattle.open_list.specs.Entry.{noKey}
+use Rattle.map.specs.Layout.{endsAt, estimatesAt, goalsAt, arcsAt, rowStart, rowEnd, arcIn, row, rowsBelow, below, problemAt}
+use Rattle.model.specs.Costs.{costAt}
+use Rattle.model.specs.Limits.{maxPlaces}
+use Rattle.model.specs.Lists.{filter, filterMap}
+use Rattle.model.specs.Problem.{Problem, Arc, IsArc}
+use Rattle.search.specs.Area.{wordOr, labels, Labelled, HasRow}
+use Rattle.search.specs.Scans.{passed, InRow, ArcWord, Kept}
+use Rattle.search.proofs.Least.{wordOr-none, wordOr-some, filterMap-nothing}
+
+pub getD-default : (l : List ℕ) (i d e : ℕ) → i < length l → getD l i d ≡ getD l i e
+getD-default [] i d e h = absurd (omega arith)
+getD-default (x ∷ l) zero d e h = refl
+getD-default (x ∷ l) (suc i) d e h = getD-default l i d e (omega arith)
+
+getD-member : (l : List ℕ) (i : ℕ) → i < length l → List·Memᴰ (getD l i 0) l
+getD-member [] i h = absurd (omega arith)
+getD-member (x ∷ l) zero h = List·Memᴰ·head refl
+getD-member (x ∷ l) (suc i) h = List·Memᴰ·tail (getD-member l i (omega arith))
+
+-- the label of a place is its word
+pub label-at : (n : ℕ) (w : List ℕ) (v : ℕ) → v < n → v < length w → costAt (labels n w) v ≡ wordOr (getD w v 0)
+unfolding labels
+label-at n w v h l =
+    ap (λ (d : Option ℕ). getD (map wordOr (take n w)) v d) (sym wordOr-none)
+    ∙ List·getD-map wordOr (take n w) v noKey
+    ∙ ap wordOr (getD-take n w v noKey h ∙ getD-default w v noKey 0 l)
+
+-- the row of a place after the first begins where the row before it ends
+pub row-start-after : (n : ℕ) (w : List ℕ) (v : ℕ) → (v ≡ 0 → ⊥) → getD w (endsAt n + v - 1) 0 ≡ rowStart n w v
+unfolding rowStart
+row-start-after n w zero h = absurd (h refl)
+row-start-after n w (suc v) h = ap (λ (i : ℕ). getD w i 0) (omega arith)
+
+-- ---- the arcs passed
+module _ (n : ℕ) (w : List ℕ) (u : ℕ) where
+  pub passed-start : passed n w u (rowStart n w u) ≡ rowsBelow n w u
+  unfolding passed
+  passed-start =
+      let nothing : rowStart n w u - rowStart n w u ≡ 0 = omega arith in
+      rw (nothing, append-nil)
+
+  pub passed-end : passed n w u (rowEnd n w u) ≡ rowsBelow n w (suc u)
+  unfolding passed rowsBelow row
+  passed-end = refl
+
+  pub passed-step : (k : ℕ) → rowStart n w u ≤ k → arcsAt n + k < length w
+      → passed n w u (k + 1) ≡ passed n w u k ++ (arcIn u (getD w (arcsAt n + k) 0) ∷ [])
+  unfolding passed
+  passed-step k h l =
+      let s : ℕ = rowStart n w u in
+      let rest : List ℕ = drop (arcsAt n + s) w in
+      let more : k + 1 - s ≡ suc (k - s) = omega arith in
+      let place : arcsAt n + s + (k - s) ≡ arcsAt n + k = omega arith in
+      let inside : k - s < length rest = simp length-drop (omega arith) in
+      let word : getD rest (k - s) 0 ≡ getD w (arcsAt n + k) 0 = getD-drop (arcsAt n + s) w (k - s) 0 ∙ ap (λ (i : ℕ). getD w i 0) place in
+      rw (more, take-suc rest (k - s) 0 inside, word, map-append) (sym (append-assoc (rowsBelow n w u) _ _))
+
+  -- a row of whose arcs f gives nothing adds nothing
+  pub row-nothing : (f : Arc → Option ℕ) → ((x : ℕ) → f (arcIn u x) ≡ none) → filterMap f (rowsBelow n w (suc u)) ≡ filterMap f (rowsBelow n w u)
+  unfolding rowsBelow row
+  row-nothing f h =
+      filterMap-nothing f (arcIn u) h (rowsBelow n w u) (take (rowEnd n w u - rowStart n w u) (drop (arcsAt n + rowStart n w u) w))
+
+-- ---- the arc at an index
+row-member : (n : ℕ) (w : List ℕ) (u k : ℕ) → rowStart n w u ≤ k → k < rowEnd n w u → arcsAt n + rowEnd n w u ≤ length w
+    → List·Memᴰ (arcIn u (getD w (arcsAt n + k) 0)) (row n w u)
+unfolding row
+row-member n w u k h g l =
+    let s : ℕ = rowStart n w u in
+    let rest : List ℕ = drop (arcsAt n + s) w in
+    let words : List ℕ = take (rowEnd n w u - s) rest in
+    let place : arcsAt n + s + (k - s) ≡ arcsAt n + k = omega arith in
+    let inside : k - s < length words = simp (length-take, length-drop) (omega arith) in
+    let word : getD words (k - s) 0 ≡ getD w (arcsAt n + k) 0
+    = getD-take (rowEnd n w u - s) rest (k - s) 0 (omega arith) ∙ getD-drop (arcsAt n + s) w (k - s) 0 ∙ ap (λ (i : ℕ). getD w i 0) place in
+    Memᴰ·map (arcIn u) (Memᴰ·cast (sym word) (getD-member words (k - s) inside))
+
+rows-member : (n : ℕ) (w : List ℕ) (u k : ℕ) (a : Arc) → u < k → List·Memᴰ a (row n w u) → List·Memᴰ a (rowsBelow n w k)
+unfolding rowsBelow
+rows-member n w u zero a h i = absurd (omega arith)
+rows-member n w u (suc k) a h i = go (ℕ-discrete u k) (rows-member n w u k a)
+  where
+    go : Dec (u ≡ k) → (u < k → List·Memᴰ a (row n w u) → List·Memᴰ a (rowsBelow n w k)) → List·Memᴰ a (rowsBelow n w k ++ row n w k)
+    go (yes e) rest = Memᴰ·append-right (rowsBelow n w k) (rw (← e) i)
+    go (no e) rest = Memᴰ·append-left (row n w k) (rest (omega arith) i)
+
+module _ (n : ℕ) (w : List ℕ) (g : Labelled n w) where
+  pub few-places : n ≤ maxPlaces
+  unfolding problemAt
+  few-places = g .holds .valid .few-places
+
+  pub rows-room : arcsAt n ≤ length w
+  rows-room = omega (arith, g .holds .room)
+
+  pub has-row : (u : ℕ) → u < n → HasRow n u w
+  has-row u h = record { few = few-places; place = h; room = rows-room }
+
+  row-room : (u : ℕ) → u < n → arcsAt n + rowEnd n w u ≤ length w
+  row-room u h = omega (arith, g .holds .room, g .holds .row-in u h)
+
+  pub label-of : (u : ℕ) → u < n → costAt (labels n w) u ≡ wordOr (getD w u 0)
+  label-of u h = label-at n w u h (omega (arith, rows-room))
+
+  pub word-label : (u : ℕ) → u < n → (getD w u 0 ≡ noKey → ⊥) → costAt (labels n w) u ≡ some (getD w u 0)
+  word-label u h k = label-of u h ∙ wordOr-some (getD w u 0) k
+
+  pub no-label : (u : ℕ) → u < n → getD w u 0 ≡ noKey → costAt (labels n w) u ≡ none
+  no-label u h k = label-of u h ∙ ap wordOr k ∙ wordOr-none
+
+  pub arc-word : (u d k end : ℕ) → costAt (labels n w) u ≡ some d → InRow n u k end w → k < end → ArcWord n d (getD w (arcsAt n + k) 0) w
+  unfolding problemAt arcIn
+  arc-word u d k end e v l =
+      let h : u < n = v .row .place in
+      let p : Problem = problemAt n (g .start) w in
+      let x : ℕ = getD w (arcsAt n + k) 0 in
+      let is-arc : IsArc p (arcIn u x) = rows-member n w u n (arcIn u x) h (row-member n w u k (v .from-start) (omega (arith, v .is-end)) (row-room u h)) in
+      let end-in : x / 65536 < n = g .holds .valid .arc-to (arcIn u x) is-arc in
+      record {
+        few = few-places;
+        room = rows-room;
+        end-in = end-in;
+        label-below = g .label-below u d e;
+        estimate-below = rw (lt-ltb (x / 65536) n end-in) at (g .holds .valid .estimate-below (x / 65536));
+      }
+
+  pub row-begins : (u end : ℕ) → HasRow n u w → end ≡ rowEnd n w u → InRow n u (rowStart n w u) end w
+  row-begins u end h e =
+      record {
+        row = h;
+        room = omega (arith, row-room u (h .place));
+        is-end = e;
+        from-start = omega arith;
+        to-end = omega (arith, g .holds .row-rises u (h .place));
+      }
+
+pub row-goes-on : (n u k end : ℕ) (w : List ℕ) → InRow n u k end w → k < end → InRow n u (k + 1) end w
+row-goes-on n u k end w v l =
+    record { row = v .row; room = v .room; is-end = v .is-end; from-start = omega (arith, v .from-start); to-end = omega arith }
+
+-- ---- a change before the row ends changes nothing of the problem
+module _ (n : ℕ) (w w₀ : List ℕ) (same : drop (endsAt n) w ≡ drop (endsAt n) w₀) where
+  pub word-kept : (i : ℕ) → endsAt n ≤ i → getD w i 0 ≡ getD w₀ i 0
+  word-kept i h =
+      let place : endsAt n + (i - endsAt n) ≡ i = omega arith in
+      simp (getD-drop, place) at (ap (λ (l : List ℕ). getD l (i - endsAt n) 0) same)
+
+  drop-kept : (i : ℕ) → endsAt n ≤ i → drop i w ≡ drop i w₀
+  drop-kept i h =
+      let place : endsAt n + (i - endsAt n) ≡ i = omega arith in
+      rw (← place, ← (drop-drop (i - endsAt n) (endsAt n) w), ← (drop-drop (i - endsAt n) (endsAt n) w₀)) (ap (drop (i - endsAt n)) same)
+
+  pub row-start-kept : (v : ℕ) → rowStart n w v ≡ rowStart n w₀ v
+  unfolding rowStart
+  row-start-kept zero = refl
+  row-start-kept (suc v) = word-kept (endsAt n + v) (omega arith)
+
+  pub row-end-kept : (v : ℕ) → rowEnd n w v ≡ rowEnd n w₀ v
+  unfolding rowEnd
+  row-end-kept v = word-kept (endsAt n + v) (omega arith)
+
+  pub rows-kept : (k : ℕ) → rowsBelow n w k ≡ rowsBelow n w₀ k
+  unfolding rowsBelow row
+  rows-kept zero = refl
+  rows-kept (suc k) =
+      rw (rows-kept k, row-start-kept k, row-end-kept k, drop-kept (arcsAt n + rowStart n w₀ k) (omega arith))
+
+  pub problem-kept : (start : ℕ) → problemAt n start w ≡ problemAt n start w₀
+  unfolding problemAt
+  problem-kept start =
+      rw (rows-kept n)
+      (ap (λ (f : ℕ → ℕ). with-estimates f w) (fun-ext (λ v. ap (λ (x : ℕ). cond (ltb v n) x 0) (word-kept (estimatesAt n + v) (omega arith))))
+      ∙ ap (λ (f : ℕ → Bool). with-goals f) (fun-ext (λ v. ap (λ (x : ℕ). not (eqb x 0)) (word-kept (goalsAt n + v) (omega arith)))))
+    where
+      with-goals : (ℕ → Bool) → Problem
+      with-goals f =
+          record {
+            places = n;
+            arcs = rowsBelow n w₀ n;
+            estimate = λ v. cond (ltb v n) (getD w₀ (estimatesAt n + v) 0) 0;
+            start = start;
+            goals = filter f (below n);
+            growth = 2;
+          }
+
+      with-estimates : (ℕ → ℕ) → List ℕ → Problem
+      with-estimates f l =
+          record {
+            places = n;
+            arcs = rowsBelow n w₀ n;
+            estimate = f;
+            start = start;
+            goals = filter (λ v. not (eqb (getD l (goalsAt n + v) 0) 0)) (below n);
+            growth = 2;
+          }
+
+-- labels and map are as before, and so is what a pass asks of the area
+pub labelled-kept : (n : ℕ) (w₀ w : List ℕ) → Kept n w₀ w → Labelled n w₀ → Labelled n w
+unfolding labels
+labelled-kept n w₀ w k g =
+    record {
+      arcs = g .arcs;
+      start = g .start;
+      holds = record {
+        valid = rw (problem-kept n w w₀ (k .same-map) (g .start)) (g .holds .valid);
+        room = omega (arith, k .same-length, g .holds .room);
+        row-rises = λ v h. rw (row-start-kept n w w₀ (k .same-map) v, row-end-kept n w w₀ (k .same-map) v) (g .holds .row-rises v h);
+        row-in = λ v h. rw (row-end-kept n w w₀ (k .same-map) v) (g .holds .row-in v h);
+      };
+      label-below = λ v d. rw (k .same-labels) (g .label-below v d);
+    }
+
+pub labels-kept : (n : ℕ) (w₀ w : List ℕ) → Kept n w₀ w → labels n w ≡ labels n w₀
+unfolding labels
+labels-kept n w₀ w k = rw (k .same-labels)
+
+pub in-row-kept : (n u k end : ℕ) (w₀ w : List ℕ) → Kept n w₀ w → InRow n u k end w₀ → InRow n u k end w
+in-row-kept n u k end w₀ w s v =
+    record {
+      row = record { few = v .row .few; place = v .row .place; room = omega (arith, s .same-length, v .row .room) };
+      room = omega (arith, s .same-length, v .room);
+      is-end = rw (row-end-kept n w w₀ (s .same-map) u) (v .is-end);
+      from-start = rw (row-start-kept n w w₀ (s .same-map) u) (v .from-start);
+      to-end = v .to-end;
+    }

@@ -1,0 +1,54 @@
+-- A uniform-cost search under way within limit C: labels of places, and which of them are settled (expanded).
+use mathlib.Core.Path.{_≡_}
+use mathlib.Core.Logic.{_⊎_}
+use mathlib.Core.Bool.{Bool, true, false, cond, _||_}
+use mathlib.Core.Option.{Option, none, some}
+use Prim.Native.Nat.{ℕ, zero, suc, _+_, _≤_, _<_}
+use lib.Dec.{eqb}
+use Rattle.model.specs.Problem.{Problem, Arc, IsArc, IsGoal}
+use Rattle.model.specs.Paths.{PathWithin}
+use Rattle.model.specs.Terms.{AtMost}
+
+-- u at cost x comes before w at cost y: by cost, then by number
+abbrev pub Before : (x u y w : ℕ) → Type 0
+Before x u y w = (x < y) ⊎ ((x ≡ y) × (u < w))
+
+pub record Front (p : Problem) (C : ℕ) (label : ℕ → Option ℕ) (settled : ℕ → Bool) : Type 0 where
+  -- the start is labelled 0
+  pub begins : AtMost (label (p .start)) 0
+  -- each label is the cost of a path within C
+  pub backed : (v d : ℕ) → label v ≡ some d → PathWithin p C v d
+  -- a settled place is labelled, and its arcs are relaxed
+  pub labelled : (u : ℕ) → settled u ≡ true → (d : ℕ) × (label u ≡ some d)
+  pub relaxed : (a : Arc) (d : ℕ) → IsArc p a → settled (a .from) ≡ true → label (a .from) ≡ some d
+      → d + a .cost + p .estimate (a .to) ≤ C → AtMost (label (a .to)) (d + a .cost)
+  -- settled places come before those that are labelled and not settled
+  pub ordered : (u w x y : ℕ) → settled u ≡ true → label u ≡ some x → settled w ≡ false → label w ≡ some y → Before x u y w
+  -- no goal is settled
+  pub no-goal : (g : ℕ) → IsGoal p g → settled g ≡ false
+
+-- v, labelled d, is the first of the open places: labelled and not settled
+pub record FirstOpen (label : ℕ → Option ℕ) (settled : ℕ → Bool) (v d : ℕ) : Type 0 where
+  pub is-labelled : label v ≡ some d
+  pub is-open : settled v ≡ false
+  pub least : (w y : ℕ) → settled w ≡ false → label w ≡ some y → d ≤ y
+  pub lowest : (w : ℕ) → settled w ≡ false → label w ≡ some d → v ≤ w
+
+-- no place is open
+abbrev pub NoneOpen : (label : ℕ → Option ℕ) (settled : ℕ → Bool) → Type 0
+NoneOpen label settled = (w y : ℕ) → label w ≡ some y → settled w ≡ true
+
+-- the arcs of v, labelled d, have been relaxed: labels only fall, to what an arc of v gives within C
+pub record Expanded (p : Problem) (C v d : ℕ) (before after : ℕ → Option ℕ) : Type 0 where
+  pub kept : (w y : ℕ) → AtMost (before w) y → AtMost (after w) y
+  pub reached : (a : Arc) → IsArc p a → a .from ≡ v → d + a .cost + p .estimate (a .to) ≤ C → AtMost (after (a .to)) (d + a .cost)
+  pub sound : (w y : ℕ) → after w ≡ some y
+      → (before w ≡ some y) ⊎ ((a : Arc) × IsArc p a × (a .from ≡ v) × (a .to ≡ w) × (d + a .cost ≡ y) × (y + p .estimate w ≤ C))
+
+unfoldable pub also : (ℕ → Bool) → ℕ → ℕ → Bool
+also settled v u = settled u || eqb u v
+
+-- how many of the places below n are settled
+unfoldable pub countBelow : (ℕ → Bool) → ℕ → ℕ
+countBelow settled zero = 0
+countBelow settled (suc n) = cond (settled n) (suc (countBelow settled n)) (countBelow settled n)

@@ -1,0 +1,57 @@
+-- What the functions of the rounds ask and give, and where the search stands as a query begins.
+use mathlib.Core.Path.{_≡_}
+use mathlib.Core.List.{List, [], _∷_, _++_}
+use mathlib.Core.Option.{some}
+use Prim.Native.Nat.{ℕ, _≤_}
+use lib.ListN.{length, drop}
+use Rattle.map.specs.Layout.{problemAt, endsAt}
+use Rattle.model.specs.Problem.{Problem}
+use Rattle.model.specs.Costs.{costAt}
+use Rattle.model.specs.Query as query
+use Rattle.model.specs.Rounds as model
+use Rattle.model.specs.Rounds.{Step, trace}
+use Rattle.model.specs.Terms.{Run}
+use Rattle.search.specs.Area.{labels, Labelled, HasParents}
+use Rattle.search.specs.Query.{outcomeOf}
+use Rattle.search.specs.Rounds.{highOf, roundOf}
+use Rattle.search.specs.declared.High.{High}
+use Rattle.search.specs.declared.Outcome.{Outcome}
+use Rattle.search.specs.declared.Round.{Round}
+use Rattle.search.specs.declared.Verdict.{Verdict}
+use Rattle.search.specs.declared.Verdict.the-variants.{Routed}
+
+-- the next round, in the terms of document 01, and the outcome that its record carries
+pub record Settled (low : ℕ) (high : High) (budget : ℕ) (outcome : Outcome) (r : Round) : Type 0 where
+  pub round : roundOf r ≡ model.settle 2 low (highOf high) budget
+  pub carries : r .outcome ≡ outcome
+
+-- the goal has a label
+pub record Arrived (n goal : ℕ) (w : List ℕ) : Type 0 where
+  pub labelled : Labelled n w
+  pub cost : ℕ
+  pub label : costAt (labels n w) goal ≡ some cost
+
+-- the goal's label is the verdict's cost, and the parents lead back from it
+pub record Parented (n goal limit total queries : ℕ) (w₀ w : List ℕ) (r : Verdict) : Type 0 where
+  pub parents : HasParents n w₀ w
+  pub cost : ℕ
+  pub label : costAt (labels n w₀) goal ≡ some cost
+  pub verdict : r ≡ Routed cost goal limit total queries
+
+-- The queries done, whose total the allowance lasts for and the last of which, if any, had outcome o; and those from round r on to the one
+-- that finishes the search.
+pub record Underway (p : Problem) (allowance : ℕ) (r : model.Round) (o : query.Outcome) (total queries : ℕ) : Type 0 where
+  pub done : List Step
+  pub rest : List Step
+  pub split : trace p ≡ done ++ rest
+  pub run : Run p r rest
+  pub sum : total ≡ model.total done
+  pub lasts : total ≤ allowance
+  pub counted : queries ≡ length done
+  pub last-outcome : (before : List Step) (s : Step) → done ≡ before ++ (s ∷ []) → s .query .outcome ≡ o
+
+-- as a query begins: the map is as it was, the round is one of the search's, and its record carries the outcome of the query before
+pub record Searching (n start allowance : ℕ) (w₀ w : List ℕ) (round : Round) (total queries : ℕ) : Type 0 where
+  pub same-map : drop (endsAt n) w ≡ drop (endsAt n) w₀
+  pub same-length : length w ≡ length w₀
+  pub underway : Underway (problemAt n start w₀) allowance (roundOf round) (outcomeOf (round .outcome)) total queries

@@ -1,0 +1,135 @@
+// One query: a uniform-cost search within a limit, which counts the places that it expands.
+use crate::Asked;
+use crate::Outcome;
+use map::Map;
+use map::layout;
+ghost use Rattle.map.specs.Layout.{rowStart, rowEnd};
+ghost use Rattle.search.specs.Area.{Labelled};
+ghost use Rattle.search.specs.Query.{Askable, Answered};
+ghost use Rattle.search.specs.State.{Room, Blank, Arrives, Arrived, Relaxes, ByArc, ByArcs, Relaxed, Expands, AllSettled};
+
+const NONE: u32 = open_list::NONE;
+
+// An arc's word is its end, times this, and its cost.
+const END: u32 = 65536;
+
+// No place has a label, and none is open.
+fn clear(work: &mut [u32], n: usize, m: usize)
+    requires { ⌜ Room n m (now work) ⌝ }
+    ensures { λ _. ⌜ Blank n m (now (work .entry)) (now (work .exit)) ⌝ }
+{
+    area::fill(&mut work[0..n], NONE);
+    let end = n + 9 * m + 1;
+    open_list::clear(&mut work[n..end], m);
+}
+
+// Place v is reached at cost d, which is below its label.
+fn arrive(work: &mut [u32], n: usize, m: usize, hand: u64, v: usize, d: u32) -> u64
+    requires { ⌜ Arrives n m hand v d (now work) ⌝ }
+    ensures { λ r. ⌜ Arrived n m v d hand (now (work .entry)) r (now (work .exit)) ⌝ }
+{
+    work[v] = d;
+    let end = n + 9 * m + 1;
+    open_list::lower(&mut work[n..end], m, hand, v, d)
+}
+
+// The arc with the word x, from a place that is expanded at cost d.
+fn relax(work: &mut [u32], n: usize, m: usize, hand: u64, limit: u32, d: u32, x: u32) -> u64
+    requires { ⌜ Relaxes n m hand d x (now work) ⌝ }
+    ensures { λ r. ⌜ Relaxed n m (ByArc n limit d x (now (work .entry))) hand (now (work .entry)) r (now (work .exit)) ⌝ }
+{
+    let v = (x / END) as usize;
+    let e = d + x % END;
+    if work[v] <= e {
+        return hand;
+    }
+    if limit < e + work[layout::estimates_at(n) + v] {
+        return hand;
+    }
+    arrive(work, n, m, hand, v, e)
+}
+
+// Relaxes the arcs of u, which is expanded at cost d.
+fn expand(work: &mut [u32], n: usize, m: usize, hand: u64, limit: u32, u: usize, d: u32) -> u64
+    requires { ⌜ Expands n m hand u d (now work) ⌝ }
+    ensures { λ r. ⌜ Relaxed n m (ByArcs n limit d (rowStart n (now (work .entry)) u) (rowEnd n (now (work .entry)) u) (now (work .entry))) hand (now (work .entry)) r (now (work .exit)) ⌝ }
+{
+    let mut h = hand;
+    let mut k = crate::scans::row_start(work, n, u);
+    let end = work[layout::ends_at(n) + u] as usize;
+    while k < end {
+        let x = work[layout::arcs_at(n) + k];
+        h = relax(work, n, m, h, limit, d, x);
+        k += 1;
+    }
+    h
+}
+
+// No place is open: the query ends by the least sum over arcs to places with no label, where there is one.
+fn all_settled(work: &[u32], n: usize, count: u32) -> Asked
+    requires { ⌜ Labelled n (now work) ⌝ }
+    ensures { λ r. ⌜ AllSettled n count (now (work .entry)) r ⌝ }
+{
+    let next = crate::scans::next_limit(work, n);
+    if next == NONE {
+        return Asked {
+            spent: false,
+            outcome: Outcome::None,
+            count,
+            place: 0,
+        };
+    }
+    Asked {
+        spent: false,
+        outcome: Outcome::Ended(next),
+        count,
+        place: 0,
+    }
+}
+
+pub fn query(work: &mut [u32], size: Map, start: u32, limit: u32, budget: u32, left: u32) -> Asked
+    requires { ⌜ Askable (size .places) (size .arcs) start limit (now work) ⌝ }
+    ensures { λ r. ⌜ Answered (size .places) start limit budget left (now (work .entry)) (now (work .exit)) r ⌝ }
+{
+    let n = size.places;
+    let m = open_list::nodes(n);
+    let end = n + 9 * m + 1;
+    clear(work, n, m);
+    let mut hand = arrive(work, n, m, open_list::empty(), start as usize, 0);
+    let mut count: u32 = 0;
+    loop {
+        let first = open_list::least(&work[n..end], m, hand);
+        let d = (first / 4294967296) as u32;
+        let place = (first % 4294967296) as usize;
+        if d == NONE {
+            return all_settled(work, n, count);
+        }
+        if work[layout::goals_at(n) + place] != 0 {
+            return Asked {
+                spent: false,
+                outcome: Outcome::Found,
+                count,
+                place: place as u32,
+            };
+        }
+        if count == budget {
+            return Asked {
+                spent: false,
+                outcome: Outcome::Over,
+                count,
+                place: 0,
+            };
+        }
+        if count == left {
+            return Asked {
+                spent: true,
+                outcome: Outcome::Over,
+                count,
+                place: 0,
+            };
+        }
+        hand = open_list::close(&mut work[n..end], m, hand, place);
+        hand = expand(work, n, m, hand, limit, place, d);
+        count += 1;
+    }
+}
