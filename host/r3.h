@@ -1,6 +1,8 @@
 /* The functions that the R3 router's archives export for a host in C.
  *
- * A slice is passed as a pointer and a length. The pointer must not be null, also where the length is 0. */
+ * A slice is passed as a pointer and a length, counted in elements. What is promised rests on three things that nobody checks:
+ * no pointer is null, also where the length is 0; words are aligned as uint32_t is; and the areas that a call may write overlap
+ * neither each other nor what it reads. */
 #ifndef R3_H
 #define R3_H
 
@@ -12,5 +14,20 @@
  * 1: the cost      2: the count of places      3 + i: place i
  * A refused sheet, or a place beyond the last, gives 0 to every question but 0. */
 uint32_t r3_sheet(const uint8_t *sheet, size_t length, uint32_t question);
+
+/* librouter.a: routes a job. The input is read; work and sheet are lent to the call; as many of the answer's seven numbers as
+ * there is room for are stored in answer: number, cost, limit, floor, expansions, queries, sheet bytes. The number comes back.
+ * 0: the route sheet is at the front of the sheet area
+ * 1 to 15: refused, and neither area has changed
+ * 16: the allowance is spent; the sheet area has not changed
+ * 17: no goal can be reached; the no-route sheet is at the front of the sheet area
+ * After 0, 16 and 17 the first 16 * N + 2 * M words of work are 0. No other word or byte changes.
+ * A map of N places and M arcs asks for the words and bytes below, or gets 14 or 15. R3_WORDS and R3_BYTES are enough for all. */
+#define R3_WORDS_OF(places, arcs) (16 * (size_t)(places) + 2 * (size_t)(arcs))
+#define R3_BYTES_OF(places) (10 + 2 * (size_t)(places))
+#define R3_WORDS R3_WORDS_OF(4096, 16384)
+#define R3_BYTES R3_BYTES_OF(4096)
+uint32_t r3_route(const uint8_t *input, size_t length, uint32_t *work, size_t words, uint8_t *sheet, size_t bytes,
+                  uint32_t *answer, size_t room);
 
 #endif

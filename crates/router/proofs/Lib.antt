@@ -1,0 +1,4 @@
+pub mod Counting
+pub mod Routing
+pub mod Sheet
+pub mod Words

@@ -1,0 +1,52 @@
+-- The work area after the call, and words stored one by one. Assumes nothing.
+use mathlib.Core.Path.{_≡_, refl, ap, _∙_}
+use mathlib.Core.List.{List, [], _∷_}
+use Prim.Native.Nat.{ℕ, suc, _+_, _-_, _*_, _≤_}
+use native.Mathlib.Omega.{arith}
+use lib.ListN.{length, take, drop, set, replicate, length-replicate}
+use lib.Seq.{drop-drop, sets, length-take-le}
+use borrow.Rule.Slice.PartMut.{putMid}
+use Rattle.map.specs.Layout.{endsAt, arcsAt, Loaded}
+use Rattle.model.specs.Answer.{overFront}
+use Rattle.search.specs.Rounds.{Searched}
+use Rattle.search.specs.declared.Verdict.{Verdict}
+
+-- lists that agree from a on agree from every later index on
+drop-later : (xs ys : List ℕ) (a b : ℕ) → a ≤ b → drop a xs ≡ drop a ys → drop b xs ≡ drop b ys
+drop-later xs ys a b l e =
+    let later : b ≡ a + (b - a) = omega arith in
+    rw (later, ← (drop-drop (b - a) a xs), ← (drop-drop (b - a) a ys), e)
+
+-- Loading and searching leave the words beyond the arcs as they were.
+pub rest-kept : {input work₀ loaded work : List ℕ} {n m start allowance : ℕ} {v : Verdict}
+    → Loaded input n m start work₀ loaded → Searched n start allowance loaded work v
+    → drop (16 * n + 2 * m) work ≡ drop (16 * n + 2 * m) work₀
+rest-kept {work₀ = work₀} {loaded = loaded} {work = work} {n = n} {m = m} l s =
+    drop-later work loaded (endsAt n) (16 * n + 2 * m) (omega arith) (s .same-map)
+    ∙ drop-later loaded work₀ (arcsAt n + m) (16 * n + 2 * m) (omega arith) (l .rest)
+
+-- The front of the words comes back as zeros, and the rest is as in work₀.
+pub cleared : (need : ℕ) (work₀ work front : List ℕ) → need ≤ length work → drop need work ≡ drop need work₀
+    → front ≡ replicate (length (take (need - 0) (drop 0 work))) 0 → putMid 0 (need - 0) work front ≡ overFront (replicate need 0) work₀
+unfolding overFront
+cleared need work₀ work front l e f =
+    let all : need - 0 ≡ need = omega arith in
+    let zeros : front ≡ replicate need 0 = rw (f, all, length-take-le need work l) in
+    rw (zeros, all, length-replicate, e)
+
+-- a store beyond the first element
+sets-later : (x : ℕ) (area : List ℕ) (i : ℕ) (new : List ℕ) → sets (x ∷ area) (suc i) new ≡ x ∷ sets area i new
+sets-later x area i [] = refl
+sets-later x area i (y ∷ new) = sets-later x (set area i y) (suc i) new
+
+sets-nothing : (i : ℕ) (new : List ℕ) → sets [] i new ≡ []
+sets-nothing i [] = refl
+sets-nothing i (y ∷ new) = sets-nothing (suc i) new
+
+-- The numbers stored one by one from the front on, as many as there is room for.
+pub stored : (new area : List ℕ) → sets area 0 new ≡ overFront (take (length area) new) area
+unfolding overFront
+stored [] [] = refl
+stored [] (x ∷ area) = refl
+stored (y ∷ new) [] = sets-nothing 1 new
+stored (y ∷ new) (x ∷ area) = sets-later y area 0 new ∙ ap (λ (l : List ℕ). y ∷ l) (stored new area)

@@ -1,0 +1,49 @@
+-- A refusal leaves both areas as they were; an accepted input is as its judgement states.
+use borrow.Author.Needs.{needs}
+use Rattle.router.proofs.Routing.{refused-routed, stated}
+use Rattle.router.proofs.route.Statement.{statement}
+use Rattle.router.proofs.route.Tie as tie
+
+judge-requires : tie.Need-judge-requires
+judge-requires c κs = search needs
+
+enum-known-judgement : tie.Need-enum-known-judgement
+enum-known-judgement c = search needs
+
+refused-requires : tie.Need-refused-requires
+refused-requires c κs = search needs
+
+enum-known-judgement-2 : tie.Need-enum-known-judgement-2
+enum-known-judgement-2 c = search needs
+
+accepted-requires : tie.Need-accepted-requires
+accepted-requires c κs = stated _ _ (c .before .before .before .before .before .judge .ensures) (c .before .before .before .judgement2 .given .1)
+
+returns : tie.Need-returns
+returns c =
+    let judged = c .before .before .before .before .judge .ensures in
+    let is = c .before .before .judgement .given .1 in
+    refused-routed _ _ judged is (judged .some-number _ is) (c .refused .ensures)
+
+same-length : tie.Need-same-length
+same-length c = search needs
+
+same-length-2 : tie.Need-same-length-2
+same-length-2 c = search needs
+
+returns-2 : tie.Need-returns-2
+returns-2 c = search needs
+
+pub route-spec : {M : Type 1} → statement M
+route-spec =
+    tie.close
+    (tie.spec
+    judge-requires
+    enum-known-judgement
+    refused-requires
+    enum-known-judgement-2
+    accepted-requires
+    returns
+    same-length
+    same-length-2
+    returns-2)

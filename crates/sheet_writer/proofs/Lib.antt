@@ -1,0 +1,4 @@
+pub mod Follows
+pub mod Counting
+pub mod Places
+pub mod Sheets

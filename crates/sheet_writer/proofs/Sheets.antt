@@ -1,0 +1,94 @@
+-- Laws of writing the sheets, field after field.
+-- Assumes nothing.
+use mathlib.Core.Path.{_≡_, refl, sym, ap, _∙_}
+use mathlib.Core.List.{List, _++_}
+use Prim.Native.Nat.{ℕ, _+_, _*_, _≤_, _<_}
+use native.Mathlib.Omega.{arith}
+use lib.ListN.{length}
+use lib.Seq.{sets}
+use Rattle.area.proofs.Sets.{sets-join, sets-front}
+use Rattle.model.specs.Limits.{maxPlaces}
+use Rattle.model.specs.Bytes.{put16, put32, put16s}
+use Rattle.model.specs.Framing.{putRecord}
+use Rattle.model.specs.Sheets.{routeKind, noRouteKind, routeSheet, noRouteSheet}
+use Rattle.model.specs.Answer.{overFront}
+use Rattle.model.proofs.Bytes.{put16s-length}
+use Rattle.sheet_writer.specs.Header.{header, FitsHeader, HeaderWritten}
+use Rattle.sheet_writer.specs.Places.{Leads, Counted, FitsPlaces}
+use Rattle.sheet_writer.specs.Write.{NoRouteWritten, FitsRoute, RouteWritten}
+use Rattle.sheet_writer.proofs.Follows.{one-list}
+
+-- the next field after those that stand in the area
+next-field : {area₁ area : List ℕ} (area₀ xs ys : List ℕ) (j : ℕ) → j ≡ length xs → area₁ ≡ sets area₀ 0 xs → area ≡ sets area₁ j ys
+    → area ≡ sets area₀ 0 (xs ++ ys)
+next-field area₀ xs ys j q e f =
+    f ∙ ap (λ (l : List ℕ). sets l j ys) e ∙ sets-join xs ys area₀ 0 j (omega arith)
+
+over : (new area₀ area : List ℕ) → length new ≤ length area₀ → area ≡ sets area₀ 0 new → area ≡ overFront new area₀
+unfolding overFront
+over new area₀ area h e = e ∙ sets-front new area₀ h
+
+pub no-route-written : {start : ℕ} {area₀ area₁ area₂ area : List ℕ} → 6 ≤ length area₀
+    → area₁ ≡ sets area₀ 0 (put16 2) → area₂ ≡ sets area₁ 2 (put16 noRouteKind) → area ≡ sets area₂ 4 (put16 start)
+    → NoRouteWritten start area₀ area 6
+unfolding noRouteSheet putRecord put16
+no-route-written {start} {area₀} {area₁} {area₂} {area} h e₁ e₂ e₃ =
+    let all : area ≡ sets area₀ 0 (noRouteSheet start) =
+    next-field area₀ (put16 2 ++ put16 noRouteKind) (put16 start) 4 refl (next-field area₀ (put16 2) (put16 noRouteKind) 2 refl e₁ e₂) e₃ in
+    record { bytes = refl; written = over (noRouteSheet start) area₀ area h all }
+
+pub header-written : {cost count : ℕ} {area₀ area₁ area₂ area₃ area : List ℕ}
+    → area₁ ≡ sets area₀ 0 (put16 (6 + 2 * count)) → area₂ ≡ sets area₁ 2 (put16 routeKind) → area₃ ≡ sets area₂ 4 (put32 cost)
+    → area ≡ sets area₃ 8 (put16 count) → HeaderWritten cost count area₀ area
+unfolding header put16 put32
+header-written {cost} {count} {area₀} e₁ e₂ e₃ e₄ =
+    let x = put16 (6 + 2 * count) in
+    let kind = next-field area₀ x (put16 routeKind) 2 refl e₁ e₂ in
+    let to-cost = next-field area₀ (x ++ put16 routeKind) (put32 cost) 4 refl kind e₃ in
+    record { written = next-field area₀ (x ++ put16 routeKind ++ put32 cost) (put16 count) 8 refl to-cost e₄ }
+
+-- the header and the places make the sheet
+header-places : (cost : ℕ) (places : List ℕ) → header cost (length places) ++ put16s places ≡ routeSheet cost places
+unfolding header routeSheet putRecord put16 put32
+header-places cost places =
+    let body : 6 + 2 * length places ≡ length (put32 cost ++ put16 (length places) ++ put16s places) = omega (arith, put16s-length places) in
+    ap (λ (k : ℕ). put16 k ++ put16 routeKind ++ put32 cost ++ put16 (length places) ++ put16s places) body
+
+header-length : (cost count : ℕ) → length (header cost count) ≡ 10
+unfolding header put16 put32
+header-length cost count = refl
+
+route-length : (cost : ℕ) (places : List ℕ) → length (routeSheet cost places) ≡ 10 + 2 * length places
+unfolding routeSheet putRecord put16 put32
+route-length cost places = omega (arith, put16s-length places)
+
+pub route-written : {n goal cost count : ℕ} {w area₀ area₁ area : List ℕ} (h : FitsRoute n goal w area₀) → count ≡ length (h .places)
+    → HeaderWritten cost count area₀ area₁ → area ≡ sets area₁ 10 (put16s (h .places)) → RouteWritten n goal cost w area₀ area (10 + 2 * count)
+route-written {cost = cost} {count = count} {area₀ = area₀} {area = area} h q e f =
+    let places = h .places in
+    let fields = next-field area₀ (header cost count) (put16s places) 10 (sym (header-length cost count)) (e .written) f in
+    let sheet : header cost count ++ put16s places ≡ routeSheet cost places =
+    ap (λ (k : ℕ). header cost k ++ put16s places) q ∙ header-places cost places in
+    let k = route-length cost places in
+    let room : length (routeSheet cost places) ≤ length area₀ = omega (arith, h .few-places, h .room) in
+    let all = over (routeSheet cost places) area₀ area room (fields ∙ ap (λ (x : List ℕ). sets area₀ 0 x) sheet) in
+    record {
+      bytes = λ r g. omega (arith, ap (λ (x : List ℕ). length (routeSheet cost x)) (one-list (h .follows) g));
+      written = λ r g. all ∙ ap (λ (x : List ℕ). overFront (routeSheet cost x) area₀) (one-list (h .follows) g);
+    }
+
+module _ {n goal : ℕ} {w area₀ : List ℕ} (h : FitsRoute n goal w area₀) where
+  abbrev pub goal-leads : Leads n goal w
+  goal-leads = record { few = h .few; words = h .words; places = h .places; follows = h .follows; few-places = h .few-places }
+
+  module _ {arcs : ℕ} (c : Counted n goal w arcs) where
+    pub few-arcs : arcs < maxPlaces
+    few-arcs = omega (arith, c .count (h .places) (h .follows), h .few, h .few-places)
+
+    pub fits-header : FitsHeader (arcs + 1) area₀
+    fits-header = record { few = omega (arith, few-arcs); room = omega (arith, h .room) }
+
+    pub fits-places : {area : List ℕ} → length area ≡ length area₀ → FitsPlaces n goal arcs w area
+    fits-places q =
+        let k = c .count (h .places) (h .follows) in
+        record { leads = goal-leads; count = k; room = omega (arith, h .few-places, h .room) }

@@ -1,0 +1,92 @@
+#!/usr/bin/env python3
+"""Runs program `route` on whole, piecewise, damaged and long inputs and holds what it prints against document 01: program.py PROGRAM"""
+import random
+import subprocess
+import sys
+import time
+
+from inputs import damaged, some_map
+from reference import arc, estimate, head, job, route, u16
+
+WORK, SHEET, INPUT = 16384, 8202, 65536
+
+
+def run(program, pieces):
+    child = subprocess.Popen([program], stdin=subprocess.PIPE, stdout=subprocess.PIPE)
+    for piece in pieces:
+        if len(pieces) > 1:
+            time.sleep(0.002)  # so that it is read before the next one is there
+        try:
+            child.stdin.write(piece)
+            child.stdin.flush()
+        except BrokenPipeError:
+            break
+    out = child.communicate()[0].decode()
+    return out if child.returncode == 0 else f'exit {child.returncode}'
+
+
+def printed(data):
+    if len(data) > INPUT:
+        return 'too long\n'
+    answer, sheet = route(data, WORK, SHEET)
+    places = ' '.join(str(u16(sheet, i)) for i in range(10, len(sheet), 2))
+    return ' '.join(map(str, answer[:6])) + '\n' + (places + '\n' if answer[0] == 0 else '')
+
+
+def by_hand():
+    """document 01's runs, with its own lines"""
+    arcs = head(4, 4) + arc(0, 1, 1) + arc(0, 2, 3) + arc(1, 2, 1) + arc(2, 3, 3)
+    a, high = (arcs + estimate(0, 0) + estimate(1, h) + estimate(2, 1) + estimate(3, 0) for h in (4, 9))
+    two, diamond = head(2, 1) + arc(1, 0, 1), head(4, 4) + arc(0, 1, 1) + arc(0, 2, 1) + arc(1, 3, 1) + arc(2, 3, 1)
+    yield a + job(0, 944, [3]), '0 5 10 0 16 10\n0 1 2 3\n'
+    yield a + job(0, 16, [3]), '0 5 10 0 16 10\n0 1 2 3\n'
+    yield a + job(0, 15, [3]), '16 0 0 5 15 10\n'
+    yield a + job(0, 0, [3]), '16 0 0 0 0 1\n'
+    yield high + job(0, 944, [3]), '0 6 8 0 7 6\n0 2 3\n'
+    yield a + job(3, 944, [3]), '0 0 0 0 0 1\n3\n'
+    yield two + job(0, 1, [1]), '17 0 0 0 1 1\n'
+    yield two + estimate(0, 7) + job(0, 1, [1]), '17 0 14 0 1 1\n'
+    yield diamond + job(0, 944, [3]), '0 2 2 0 10 6\n0 1 3\n'
+    yield head(2, 1) + arc(0, 1, 0) + job(0, 9, [1]), '7 0 0 0 0 0\n'
+    yield head(2, 1) + arc(0, 1, 1) + estimate(0, 268435456) + job(0, 9, [1]), '8 0 0 0 0 0\n'
+    yield b'', '4 0 0 0 0 0\n'
+    yield bytes(INPUT + 1), 'too long\n'
+
+
+def whole(rnd):
+    """an accepted input as long as an input may be"""
+    arcs = b''.join(arc(rnd.randrange(205), rnd.randrange(205), rnd.randint(1, 99)) for _ in range(6551))
+    return head(205, 6551) + arcs + job(0, 236 * 205, [100, 150, 204])
+
+
+def samples(rnd):
+    full = whole(rnd)
+    assert len(full) == INPUT
+    yield from (full, full + b'\0', full * 3, full[:-1], bytes(INPUT))
+    chain = head(800, 799) + b''.join(arc(v, v + 1, 7) for v in range(799)) + job(0, 236 * 800, [799])
+    yield chain
+    for _ in range(150):
+        records = some_map(rnd)
+        yield b''.join(records) if rnd.random() < 0.5 else damaged(rnd, records)
+
+
+def in_pieces(data, rnd):
+    cuts = sorted(rnd.randrange(len(data) + 1) for _ in range(8))
+    return [data[i:j] for i, j in zip([0, *cuts], [*cuts, len(data)])]
+
+
+def main(program):
+    rnd, runs, wrong = random.Random(3), 0, 0
+    for data, want in [*by_hand(), *((d, printed(d)) for d in samples(rnd))]:
+        for pieces in ([data], in_pieces(data, rnd)):
+            got = run(program, pieces)
+            runs += 1
+            if got != want:
+                wrong += 1
+                print(f'input of {len(data)} bytes: {got!r}, expected {want!r}')
+    print(f'program: {runs} runs, {wrong} wrong')
+    return wrong != 0
+
+
+if __name__ == '__main__':
+    sys.exit(main(*sys.argv[1:]))
