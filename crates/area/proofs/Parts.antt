@@ -5,7 +5,7 @@ use mathlib.Core.List.{List, _++_}
 use Prim.Native.Nat.{ℕ, _+_, _-_, _<_, _≤_}
 use native.Mathlib.Omega.{arith}
 use lib.ListN.{length, getD, take, drop, set, length-take, length-drop, take-append-drop}
-use lib.Seq.{drop-set-lt, drop-set-add, take-set-lt, take-set-le, length-take-le, take-at, drop-at, drop-drop, drop-append-le, take-append-le, getD-take, getD-drop}
+use lib.Seq.{drop-set-lt, length-take-le, take-at, drop-at, drop-drop, drop-append-le, take-append-le, getD-take, getD-drop}
 use borrow.Rule.Slice.PartMut.{putMid, drop-put, same-len-mid}
 use Rattle.area.specs.Part.{part}
 
@@ -17,21 +17,10 @@ pub part-at : (a e : ℕ) (xs : List ℕ) (i : ℕ) → a + i < e → getD (part
 unfolding part
 part-at a e xs i h = rw (getD-take (e - a) (drop a xs) i 0 (omega arith), getD-drop)
 
--- a store in the part
-pub part-set : (a e : ℕ) (xs : List ℕ) (i j v : ℕ) → i ≡ a + j → a + j < e → part a e (set xs i v) ≡ set (part a e xs) j v
-unfolding part
-part-set a e xs i j v q h = rw (q, drop-set-add, take-set-lt (e - a) (drop a xs) j v (omega arith))
-
 -- a store before the part, or after it
 pub part-set-low : (a e : ℕ) (xs : List ℕ) (i v : ℕ) → i < a → part a e (set xs i v) ≡ part a e xs
 unfolding part
 part-set-low a e xs i v h = rw (drop-set-lt a xs i v h)
-
-pub part-set-high : (a e : ℕ) (xs : List ℕ) (i v : ℕ) → a ≤ e → e ≤ i → part a e (set xs i v) ≡ part a e xs
-unfolding part
-part-set-high a e xs i v l h =
-    let q : i ≡ a + (i - a) = omega arith in
-    rw (q, drop-set-add, take-set-le (e - a) (drop a xs) (i - a) v (omega arith))
 
 part-append : (b f : ℕ) (xs ys : List ℕ) → b ≤ f → f ≤ length xs → part b f (xs ++ ys) ≡ part b f xs
 unfolding part
@@ -57,10 +46,6 @@ pub drop-back : (a e : ℕ) (xs ys : List ℕ) (b : ℕ) → a ≤ e → e ≤ l
 drop-back a e xs ys b h l g i =
     let q : b ≡ e + (b - e) = omega arith in
     rw (q, ← (drop-drop (b - e) e (putMid a (e - a) xs ys)), drop-put a e xs ys h l (g ∙ part-length a e xs l)) (drop-drop (b - e) e xs)
-
-pub part-back-high : (a e : ℕ) (xs ys : List ℕ) (b f : ℕ) → a ≤ e → e ≤ length xs → length ys ≡ length (part a e xs) → e ≤ b → part b f (putMid a (e - a) xs ys) ≡ part b f xs
-unfolding part
-part-back-high a e xs ys b f h l g i = rw (drop-back a e xs ys b h l g i)
 
 pub back-length : (a e : ℕ) (xs ys : List ℕ) → length ys ≡ length (part a e xs) → length (putMid a (e - a) xs ys) ≡ length xs
 unfolding part

@@ -20,4 +20,5 @@ pub mod Bodies
 pub mod Reading
 pub mod Fitting
 pub mod Passes
+pub mod Held
 pub mod Loading

@@ -1,6 +1,6 @@
 -- Fields that are written are read back. Assumes nothing.
 use mathlib.Core.Path.{_≡_, refl, sym, ap, ap₂, _∙_}
-use mathlib.Core.Bool.{Bool, true, false, cond}
+use mathlib.Core.Bool.{Bool, true, false}
 use mathlib.Core.List.{List, [], _∷_, _++_, append-assoc}
 use Prim.Native.Nat.{ℕ, zero, suc, _+_, _*_, _/_, _%_, _^_, _≤_, _<_}
 use native.Mathlib.Numerals.{add-one}
@@ -26,10 +26,6 @@ drop-bytes n b B i = rw getD-drop (B (n + i))
 pub u16-below : (b : List ℕ) (i : ℕ) → Bytes b → u16 b i < 65536
 unfolding u16
 u16-below b i h = omega (arith, h i, h (i + 1))
-
-pub u32-below : (b : List ℕ) (i : ℕ) → Bytes b → u32 b i < 2 ^ 32
-unfolding u32
-u32-below b i h = omega (arith, u16-below b i h, u16-below b (i + 2) h)
 
 pub put16s-length : (xs : List ℕ) → length (put16s xs) ≡ 2 * length xs
 unfolding put16 put16s

@@ -1,13 +1,13 @@
 -- Framing record by record, with no bound on their number. Assumes nothing.
 use mathlib.Core.Path.{_≡_, refl, ap}
-use mathlib.Core.Bool.{Bool, true, false, cond}
+use mathlib.Core.Bool.{true, cond}
 use mathlib.Core.List.{List, [], _∷_}
 use Prim.Native.Nat.{ℕ, zero, suc, _+_, _*_, _≤_}
 use native.Mathlib.Omega.{arith}
 use native.Mathlib.Nat.{le-refl}
 use lib.Dec.{leb}
 use lib.ListN.{length, take, drop, length-drop}
-use Rattle.model.specs.Framing.{Record, Framed, stop, push, frameUpTo, frame}
+use Rattle.model.specs.Framing.{Framed, stop, push, frameUpTo, frame}
 
 -- one step
 module _ (k a b c d : ℕ) (rest : List ℕ) where

@@ -1,9 +1,9 @@
 -- The laws of the budgeted search, in order, each with its sentence. The proofs are in the files beside this one.
 use mathlib.Core.Path.{_≡_, ap}
 use mathlib.Core.Logic.{_↔_}
-use mathlib.Core.Bool.{true, false}
+use mathlib.Core.Bool.{true}
 use mathlib.Core.List.{List, [], _∷_, _++_, List·Memᴰ}
-use mathlib.Core.Option.{Option, none, some}
+use mathlib.Core.Option.{some}
 use Prim.Native.Nat.{ℕ, _+_, _-_, _*_, _/_, _^_, _≤_, _<_}
 use native.Mathlib.Omega.{arith}
 use lib.ListN.{length}
@@ -11,19 +11,8 @@ use Rattle.model.specs.Numbers.{binaryDigits}
 use Rattle.model.specs.Bytes.{Bytes}
 use Rattle.model.specs.Framing.{frame}
 use Rattle.model.specs.Limits.{maxCost}
-use Rattle.model.specs.Problem.{Problem, Arc, IsArc, IsGoal, Valid}
-use Rattle.model.specs.Paths.{
-  Walk,
-  PathTo,
-  GoalReachable,
-  Within,
-  PathWithin,
-  LeastWithin,
-  Cheapest,
-  FirstCheapest,
-  FirstWithin,
-  Admissible,
-}
+use Rattle.model.specs.Problem.{Problem, Arc, IsArc, Valid}
+use Rattle.model.specs.Paths.{PathTo, GoalReachable, Within, PathWithin, LeastWithin, Cheapest, FirstCheapest, FirstWithin, Admissible}
 use Rattle.model.specs.Input.{problemOf}
 use Rattle.model.specs.Refusals.{Accepted}
 use Rattle.model.specs.Costs.{Table, costAt, table}
@@ -31,7 +20,7 @@ use Rattle.model.specs.Query.{Key, within, firstGoal, ended, over, found
 use Rattle.model.specs.Rounds.{Step, firstRound, ask, trace, total, search}
 use Rattle.model.specs.Routes.{routeTo}
 use Rattle.model.specs.Answer.{searched}
-use Rattle.model.specs.Terms.{AtMost, IsWithin, Inside, Kept, Finished, LowNeverFalls, Closes, CutAt, Run, SameProblem}
+use Rattle.model.specs.Terms.{AtMost, Inside, Kept, Finished, LowNeverFalls, Closes, CutAt, Run, SameProblem}
 use Rattle.model.proofs.Acceptance
 use Rattle.model.proofs.LeastCosts
 use Rattle.model.proofs.Keys

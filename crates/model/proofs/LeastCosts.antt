@@ -1,7 +1,7 @@
 -- The table of C holds exactly the least costs of paths within C. Assumes nothing.
 use mathlib.Core.Path.{_≡_, refl, ap, sym, _∙_}
 use mathlib.Core.Logic.{_↔_, _⊎_, inl, inr}
-use mathlib.Core.List.{List, [], _∷_, List·Memᴰ, List·Memᴰ·head, Memᴰ·append-left, Memᴰ·append-right}
+use mathlib.Core.List.{[], _∷_, List·Memᴰ·head, Memᴰ·append-left, Memᴰ·append-right}
 use mathlib.Core.Option.{Option, none, some}
 use Prim.Native.Nat.{ℕ, zero, suc, _+_, _≤_, _<_}
 use native.Mathlib.Nat.{le-refl, le-trans}
@@ -10,7 +10,7 @@ use native.Mathlib.Omega.{arith}
 use lib.ListN.{length}
 use lib.Seq.{ext-getD}
 use Rattle.model.specs.Problem.{Problem, Arc, IsArc, Valid}
-use Rattle.model.specs.Paths.{Least, Walk, stay, on, PathTo, places, Within, PathWithin, LeastWithin}
+use Rattle.model.specs.Paths.{Walk, stay, on, PathTo, places, Within, PathWithin, LeastWithin}
 use Rattle.model.specs.Costs.{Table, costAt, table}
 use Rattle.model.specs.Terms.{AtMost, IsWithin, Inside}
 use Rattle.model.proofs.Lists.{none-some}

@@ -5,7 +5,7 @@ use mathlib.Core.List.{List, [], _∷_, _++_}
 use mathlib.Core.Option.{Option, none, some}
 use Prim.Native.Nat.{ℕ}
 use lib.Dec.{eqb}
-use lib.ListN.{length, take, replicate}
+use lib.ListN.{take, replicate}
 use Rattle.model.specs.Jobs.{putHead, putArc, putEstimate, putJob}
 use Rattle.model.specs.Problem.{Problem}
 use Rattle.model.specs.Costs.{table}

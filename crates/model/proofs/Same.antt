@@ -129,9 +129,6 @@ module _ (p q : Problem) (ok : Valid p) (fine : Valid q) (same : SameProblem p q
       same-least-image _ _ (p .arcs) (q .arcs) (same .arc-to) (same .arc-from)
       (λ a i. same-crossing a i (costAt t (a .from)) (costAt t (a .to)))
 
-  pub same-next-limit : (C : ℕ) → nextLimit p (table p C) ≡ nextLimit q (table q C)
-  same-next-limit C = next-limit-on (table p C) ∙ ap (nextLimit q) (same-table C)
-
   query-on : (t : Table) (b : ℕ) → queryOn p t b ≡ queryOn q t b
   unfolding queryOn
   query-on t b =

@@ -9,9 +9,9 @@ use lib.Dec.{ltb, leb, eqb}
 use lib.ListN.{length, getD, take, replicate, List·getD-eq-default}
 use lib.Seq.{take-all, take-add, take-append-seam}
 use borrow.Author.Tests.{ltb-false, leb-false, eqb-true, le-ltb, le-leb, lt-leb, eq-eqb}
-use Rattle.model.specs.Lists.{any, member, repeats}
+use Rattle.model.specs.Lists.{any, repeats}
 use Rattle.model.specs.Bytes.{Bytes, u16, u32, u16s, put16, put32, put16s}
-use Rattle.model.specs.Framing.{Record, Framed, frame, putRecord}
+use Rattle.model.specs.Framing.{Record, frame, putRecord}
 use Rattle.model.specs.Limits.{maxPlaces, maxCost}
 use Rattle.model.specs.Sheets.{
   routeKind,

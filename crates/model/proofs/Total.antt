@@ -16,7 +16,7 @@ use borrow.Author.Tests.{eqb-true}
 use Rattle.model.specs.Numbers.{digitsUpTo, binaryDigits}
 use Rattle.model.specs.Problem.{Problem, Valid}
 use Rattle.model.specs.Costs.{table}
-use Rattle.model.specs.Query.{within, Outcome, ended, over, found, nothing, query}
+use Rattle.model.specs.Query.{Outcome, ended, over, found, nothing, query}
 use Rattle.model.specs.Rounds.{Round, Step, firstRound, limitOf, closeIf, settle, after, ask, next, goOn, traceUpTo, enough, trace, total}
 use Rattle.model.specs.Terms.{Kept, Closes}
 use Rattle.model.proofs.Lists.{none-some}

@@ -1,7 +1,7 @@
 -- Fields of 2 and 4 bytes, little-endian, read from a list of bytes and written as one.
 use mathlib.Core.List.{List, [], _∷_, _++_}
 use Prim.Native.Nat.{ℕ, zero, suc, _+_, _*_, _/_, _%_, _<_}
-use lib.ListN.{length, getD}
+use lib.ListN.{getD}
 
 -- what a slice of bytes holds
 abbrev pub Bytes : List ℕ → Type 0

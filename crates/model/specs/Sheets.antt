@@ -1,12 +1,12 @@
 -- Sheets as they are written, and as the display reads them.
-use mathlib.Core.Bool.{Bool, true, false, not, cond, _&&_, _||_}
+use mathlib.Core.Bool.{Bool, true, false, cond, _&&_, _||_}
 use mathlib.Core.List.{List, [], _∷_, _++_}
 use Prim.Native.Nat.{ℕ, zero, suc, _+_, _-_, _*_}
 use lib.Dec.{ltb, leb, eqb}
 use lib.ListN.{length, getD, replicate}
 use Rattle.model.specs.Lists.{any, repeats}
 use Rattle.model.specs.Bytes.{u16, u32, u16s, put16, put32, put16s}
-use Rattle.model.specs.Framing.{Record, Framed, frame, putRecord}
+use Rattle.model.specs.Framing.{Record, frame, putRecord}
 use Rattle.model.specs.Limits.{maxPlaces, maxCost}
 
 abbrev pub routeKind : ℕ

@@ -3,9 +3,7 @@
 ghost use mathlib.Core.Path.{_≡_};
 ghost use Prim.Native.Nat.{_<_, min};
 ghost use Rattle.open_list.specs.Entry.{IsEntry, IsWord, placeOf, keyOf, wordEnd};
-
-// What one more of the key adds to an entry: 2^32.
-const KEY: u64 = 4294967296;
+use super::KEY;
 
 // A place as it stands in a word. Callers learn that it is below 2^32.
 pub fn wide(word: u32) -> usize

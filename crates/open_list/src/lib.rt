@@ -19,6 +19,9 @@ mod tree;
 // The key of a place that is not open.
 pub const NONE: u32 = 0xFFFF_FFFF;
 
+// What one more of a key adds to an entry, key * 2^32 + place.
+pub const KEY: u64 = 4294967296;
+
 // The hand with nothing in it: no key, and a place beyond all.
 const EMPTY: u64 = 18446744073709551615;
 

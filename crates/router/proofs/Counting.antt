@@ -2,14 +2,14 @@
 use mathlib.Core.Path.{_≡_, refl, ap}
 use mathlib.Core.Logic.{_⊎_, inl, inr}
 use mathlib.Core.Bool.{Bool, false, not}
-use mathlib.Core.List.{List, [], _∷_, _++_, List·Memᴰ, List·Memᴰ·head, List·Memᴰ·tail, List·Memᴰ·append-cases, List·Memᴰ·eq-of-singleton, Memᴰ·append-left, Memᴰ·append-right}
+use mathlib.Core.List.{List, [], _∷_, List·Memᴰ, List·Memᴰ·head, List·Memᴰ·tail, List·Memᴰ·append-cases, List·Memᴰ·eq-of-singleton}
 use Prim.Native.Nat.{ℕ, zero, suc, _≤_, _<_}
-use native.Mathlib.Decide.{decLt}
 use native.Mathlib.Omega.{arith}
 use lib.Dec.{eqb}
 use borrow.Author.Tests.{eq-eqb}
 use lib.ListN.{length, length-append}
 use Rattle.map.specs.Layout.{below}
+use Rattle.map.proofs.Held.{below-member}
 use Rattle.model.specs.Lists.{filter, member, repeats}
 use Rattle.model.specs.Problem.{Problem, Valid}
 use Rattle.model.specs.Costs.{table}
@@ -40,15 +40,6 @@ unfolding below
 below-length zero = refl
 below-length (suc n) = omega (arith, length-append (below n) (n ∷ []), below-length n)
 
-below-member : (n x : ℕ) → x < n → List·Memᴰ x (below n)
-unfolding below
-below-member zero x h = absurd (omega arith)
-below-member (suc n) x h = go (below-member n x) (decLt x n)
-  where
-    go : (x < n → List·Memᴰ x (below n)) → Dec (x < n) → List·Memᴰ x (below n ++ (n ∷ []))
-    go before (yes l) = Memᴰ·append-left (n ∷ []) (before l)
-    go before (no l) = Memᴰ·append-right (below n) (List·Memᴰ·head (omega arith))
-
 -- the parents lead along places of the map
 follows-below : {n v : ℕ} {w r : List ℕ} → Follows n w v r → (x : ℕ) → List·Memᴰ x r → x < n
 follows-below (first l e) x i = rw (List·Memᴰ·eq-of-singleton i) l
@@ -77,5 +68,5 @@ module _ (p : Problem) (ok : Valid p) (a : ℕ) where
 -- the parents lead along at most n places where these differ
 pub follows-few : {n goal : ℕ} {w r : List ℕ} → Follows n w goal r → Different r → length r ≤ n
 follows-few {n} {r = r} f different =
-    let among = different-among r (below n) (different-repeats r different) (λ x i. below-member n x (follows-below f x i)) in
+    let among = different-among r (below n) (different-repeats r different) (λ x i. below-member n x .1 (follows-below f x i)) in
     omega (arith, among, below-length n)

@@ -23,7 +23,7 @@ use Rattle.search.specs.declared.Asked.{Asked}
 use Rattle.search.proofs.Settling.{not-both, path-after}
 use Rattle.search.proofs.Front.{settled-least, labels-are-table, goal-found, goal-outcome, over-outcome, spent-cost, all-settled}
 use Rattle.search.proofs.Words.{wordOr-none, wordOr-some, labels-length}
-use Rattle.search.proofs.Maps.{problem-same}
+use Rattle.map.proofs.Held.{problem-same}
 use Rattle.search.proofs.Searches.{Underway, label-below}
 
 -- the next limit that was found, as an outcome

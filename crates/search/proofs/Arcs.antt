@@ -10,9 +10,9 @@ use lib.Seq.{getD-set-same, getD-set-other}
 use Rattle.open_list.specs.Entry.{noKey}
 use Rattle.open_list.proofs.Laws.{keys-length}
 use Rattle.map.specs.Layout.{endsAt, estimatesAt, arcsAt, rowStart, rowEnd, arcIn, problemAt}
-use Rattle.search.specs.Area.{openWords, keys, HasRow}
+use Rattle.search.specs.Area.{openWords, keys}
 use Rattle.search.specs.State.{Arrives, Arrived, Coherent, ByArc, ByArcs, Fell, Stays, Relaxed, Relaxes, Expands, Expanding}
-use Rattle.search.proofs.Maps.{map-word, at-arc, estimate-word}
+use Rattle.map.proofs.Held.{map-word, at-arc, estimate-word}
 
 pub coherent-length : {n m hand : ℕ} {w : List ℕ} → Coherent n m hand w → length (keys n m hand w) ≡ 7 * m + 1
 unfolding keys
@@ -131,9 +131,6 @@ unfolding rowEnd
 row-end n u w at e = rw e
 
 module _ (n m limit hand₀ u d : ℕ) (w₀ : List ℕ) (x : Expands n m hand₀ u d w₀) where
-  pub expand-row : HasRow n u w₀
-  expand-row = record { few = x .coherent .room .few; place = x .place; room = x .coherent .room .words }
-
   pub expanding-starts : (k₀ end : ℕ) → k₀ ≡ rowStart n w₀ u → end ≡ rowEnd n w₀ u → Expanding n m limit d end hand₀ w₀ k₀ hand₀ w₀ k₀
   expanding-starts k₀ end p q =
       record {

@@ -25,7 +25,7 @@ use Rattle.search.specs.State.{Coherent, ByArcs, Fell, Relaxed, Expands,
 use Rattle.search.proofs.Settling.{also-same, also-other}
 use Rattle.search.proofs.Front.{count-also, expand-front, expand-keeps}
 use Rattle.search.proofs.Words.{same-test, not-true-false, HasLabel, label-word, label-beyond, label-is, is-label, at-most, settled-is, is-settled}
-use Rattle.search.proofs.Maps.{problem-same, holds-same, arc-at, at-arc, estimate-word}
+use Rattle.map.proofs.Held.{problem-same, holds-same, arc-at, at-arc, estimate-word}
 use Rattle.search.proofs.Regions.{openEnd, open-part, Back, back}
 use Rattle.search.proofs.Arcs.{coherent-length}
 use Rattle.search.proofs.Searches.{label-below, Taken}

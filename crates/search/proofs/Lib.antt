@@ -6,13 +6,11 @@ pub mod Rows
 pub mod NextLimit
 pub mod Parents
 pub mod Words
-pub mod Maps
 pub mod Regions
 pub mod Arcs
 pub mod Searches
 pub mod Expansions
 pub mod Answers
-pub mod SameMap
 pub mod FoundRoutes
 pub mod Underway
 pub mod RoundTurns

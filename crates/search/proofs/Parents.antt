@@ -26,8 +26,9 @@ use Rattle.model.proofs.Lists.{none-some}
 use Rattle.search.specs.Area.{wordOr, labels, Labelled, parentAt, HasParents}
 use Rattle.search.specs.Scans.{passed, ArcWord, parentStored, Kept, parentFrom, ParentsOver, ParentsRow, ParentsBelow, Parenting, ParentsUpTo}
 use Rattle.search.proofs.Least.{wordOr-none, wordOr-some, lesser-below, word-step}
+use Rattle.map.proofs.Held.{map-word, rows-same}
 use Rattle.search.proofs.Rows.{getD-default, label-at, no-label, rows-room, has-row, row-nothing, row-begins, row-goes-on, arc-word}
-use Rattle.search.proofs.Rows.{passed-start, passed-end, passed-step, word-kept, rows-kept, labels-kept, labelled-kept, in-row-kept}
+use Rattle.search.proofs.Rows.{passed-start, passed-end, passed-step, labels-kept, labelled-kept, in-row-kept}
 
 -- ---- one arc
 pub stored-kept : (n u d x : ℕ) (w : List ℕ) → ArcWord n d x w → Kept n w (parentStored n u d x w)
@@ -197,7 +198,7 @@ module _ (n u d k end : ℕ) (w₀ w : List ℕ) (g : Labelled n w₀) (label : 
   pub parenting-step : Parenting n u (k + 1) end w₀ (parentStored n u d (getD w (arcsAt n + k) 0) w)
   parenting-step =
       let x : ℕ = getD w (arcsAt n + k) 0 in
-      let same : getD w₀ (arcsAt n + k) 0 ≡ x = sym (word-kept n w w₀ (v .kept .same-map) (arcsAt n + k) (omega arith)) in
+      let same : getD w₀ (arcsAt n + k) 0 ≡ x = sym (map-word n w w₀ (v .kept .same-map) (arcsAt n + k) (omega arith)) in
       let below : u < noKey = omega (arith, v .inside .row) in
       record {
         inside = row-goes-on n u k end w₀ (v .inside) l;
@@ -220,7 +221,7 @@ parents-row n u w₀ w h v =
     record {
       labelled = labelled;
       row = has-row n w labelled u h;
-      so-far = rw (labels-kept n w₀ w kept, rows-kept n w w₀ (kept .same-map) u) (v .so-far .so-far);
+      so-far = rw (labels-kept n w₀ w kept, rows-same n w w₀ (kept .same-map) u) (v .so-far .so-far);
     }
 
 -- labels and map of w₁ are those of w₀, so what arcs and labels of w₁ give is what those of w₀ give
@@ -228,7 +229,7 @@ parents-on : (n u : ℕ) (w₀ w₁ w : List ℕ) → Kept n w₀ w₁ → Paren
 parents-on n u w₀ w₁ w k v =
     record {
       kept = kept-on n w₀ w₁ w k (v .kept);
-      so-far = rw (← labels-kept n w₀ w₁ k, ← rows-kept n w₁ w₀ (k .same-map) u) (v .so-far);
+      so-far = rw (← labels-kept n w₀ w₁ k, ← rows-same n w₁ w₀ (k .same-map) u) (v .so-far);
     }
 
 pub one-row-more : (n u : ℕ) (w₀ w₁ w : List ℕ) → u < n → ParentsUpTo n u w₀ w₁ → ParentsBelow n (suc u) w₁ w → ParentsUpTo n (u + 1) w₀ w

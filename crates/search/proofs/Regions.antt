@@ -10,7 +10,6 @@ use Rattle.area.specs.Part.{part}
 use Rattle.area.proofs.Parts.{part-length, part-at, part-set-low, part-back, part-back-low, drop-back, back-length, back-at}
 use Rattle.open_list.specs.Entry.{noKey}
 use Rattle.open_list.specs.Keys.{Lowers, Put, Cleared}
-use Rattle.open_list.specs.Size.{Shape}
 use Rattle.map.specs.Layout.{endsAt}
 use Rattle.search.specs.Area.{openWords, keys}
 use Rattle.search.specs.State.{Room, Blank, Arrives, Arrived}
@@ -76,9 +75,6 @@ module _ (n m hand v d : ℕ) (w : List ℕ) (a : Arrives n m hand v d w) where
       }
 
 module _ (n m : ℕ) (w : List ℕ) (room : Room n m w) where
-  open-shape : Shape m (part n (openEnd n m) w)
-  open-shape = record { nodes = room .enough .nodes; len = part-length n (openEnd n m) w (omega (arith, room-ends room)) ∙ omega arith }
-
   -- the labels have come back filled, then the open list cleared
   module _ (xs : List ℕ) (l : length xs ≡ length (part 0 n w)) where
     filled-room : Room n m (putMid 0 (n - 0) w xs)

@@ -28,7 +28,7 @@ use Rattle.search.specs.declared.Outcome.the-variants.{Ended, Over, Foun
 use Rattle.search.specs.declared.Round.{Round}
 use Rattle.search.specs.declared.Verdict.{Verdict}
 use Rattle.search.specs.declared.Verdict.the-variants.{Spent, NoRoute}
-use Rattle.search.proofs.SameMap.{same-problem, still-holds}
+use Rattle.map.proofs.Held.{problem-same, holds-same}
 use Rattle.search.proofs.FoundRoutes.{follows-route}
 use Rattle.search.proofs.Underway as underway
 
@@ -86,8 +86,8 @@ module _ {n m start : ℕ} {w₀ : List ℕ} (holds : Holds n m start w₀) wher
     pub askable : (limit : ℕ) → limit ≡ limitIn round → Askable n m start limit w
     askable limit is =
         record {
-          holds = still-holds n w₀ w (s .same-map) m start (s .same-length) holds;
-          start-within = rw (same-problem n w₀ w (s .same-map) start, is) start-low;
+          holds = holds-same n w w₀ (s .same-map) m start (s .same-length) holds;
+          start-within = rw (problem-same n w w₀ (s .same-map) start, is) start-low;
           limit-below = rw is limit-below;
         }
 
@@ -115,7 +115,7 @@ module _ {n m start a : ℕ} {w₀ w : List ℕ} {round : Round} {t q limit : �
   answer = rw (u .limit-is) at (u .answered)
 
   same : problemAt n start w ≡ problem
-  same = same-problem n w₀ w (u .searching .same-map) start
+  same = problem-same n w w₀ (u .searching .same-map) start
 
   kept-map : drop (endsAt n) w′ ≡ drop (endsAt n) w₀
   kept-map = answer .same-map ∙ u .searching .same-map
@@ -175,7 +175,7 @@ module _ {n m start a : ℕ} {w₀ w : List ℕ} {round : Round} {t q limit : �
 
     pub turn-arrived : r .outcome ≡ Found → ((v d : ℕ) → costAt (labels n w′) v ≡ some d → d < 2 ^ 30) → Arrived n (r .place) w′
     turn-arrived f low =
-        let holds = still-holds n w₀ w′ kept-map m start (u .same-length ∙ u .searching .same-length) (u .holds) in
+        let holds = holds-same n w′ w₀ kept-map m start (u .same-length ∙ u .searching .same-length) (u .holds) in
         record {
           labelled = record { arcs = m; start = start; holds = holds; label-below = low };
           cost = at-goal f .cost;
@@ -204,4 +204,4 @@ module _ {n m start a : ℕ} {w₀ w : List ℕ} {round : Round} {t q limit : �
 
         follows : Follows n w″ (r .place) route
         follows =
-            follows-route problem valid (limitIn round) n start (r .place) w′ w″ (same-problem n w₀ w′ kept-map start) (at-goal f) (h .parents)
+            follows-route problem valid (limitIn round) n start (r .place) w′ w″ (problem-same n w′ w₀ kept-map start) (at-goal f) (h .parents)

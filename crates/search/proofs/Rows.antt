@@ -1,22 +1,19 @@
 -- Labels and rows of arcs in the words of the area: the arc at an index, the arcs passed, and that all depends on the words of the map.
 -- Assumes nothing.
-use mathlib.Core.Path.{_≡_, refl, sym, ap, _∙_, fun-ext}
-use mathlib.Core.Bool.{Bool, cond, not}
-use mathlib.Core.List.{List, [], _∷_, _++_, map, append-nil, append-assoc, map-append, List·Memᴰ, List·Memᴰ·head, List·Memᴰ·tail}
-use mathlib.Core.List.{Memᴰ·append-left, Memᴰ·append-right, Memᴰ·map, Memᴰ·cast}
+use mathlib.Core.Path.{_≡_, refl, sym, ap, _∙_}
+use mathlib.Core.List.{List, [], _∷_, _++_, map, append-nil, append-assoc, map-append}
 use mathlib.Core.Option.{Option, none, some}
 use Prim.Native.Nat.{ℕ, zero, suc, _+_, _-_, _/_, _≤_, _<_}
-use native.Mathlib.Decide.{ℕ-discrete}
 use native.Mathlib.Omega.{arith}
-use lib.Dec.{ltb, eqb}
-use lib.ListN.{length, getD, take, drop, length-take, length-drop, List·getD-map}
-use lib.Seq.{getD-take, getD-drop, drop-drop, take-suc}
+use lib.ListN.{length, getD, take, drop, length-drop, List·getD-map}
+use lib.Seq.{getD-take, getD-drop, take-suc}
 use borrow.Author.Tests.{lt-ltb}
 use Rattle.open_list.specs.Entry.{noKey}
-use Rattle.map.specs.Layout.{endsAt, estimatesAt, goalsAt, arcsAt, rowStart, rowEnd, arcIn, row, rowsBelow, below, problemAt}
+use Rattle.map.proofs.Held.{start-same, end-same, holds-same, at-arc}
+use Rattle.map.specs.Layout.{endsAt, arcsAt, rowStart, rowEnd, arcIn, row, rowsBelow, problemAt}
 use Rattle.model.specs.Costs.{costAt}
 use Rattle.model.specs.Limits.{maxPlaces}
-use Rattle.model.specs.Lists.{filter, filterMap}
+use Rattle.model.specs.Lists.{filterMap}
 use Rattle.model.specs.Problem.{Problem, Arc, IsArc}
 use Rattle.search.specs.Area.{wordOr, labels, Labelled, HasRow}
 use Rattle.search.specs.Scans.{passed, InRow, ArcWord, Kept}
@@ -26,11 +23,6 @@ pub getD-default : (l : List ℕ) (i d e : ℕ) → i < length l → getD l i d 
 getD-default [] i d e h = absurd (omega arith)
 getD-default (x ∷ l) zero d e h = refl
 getD-default (x ∷ l) (suc i) d e h = getD-default l i d e (omega arith)
-
-getD-member : (l : List ℕ) (i : ℕ) → i < length l → List·Memᴰ (getD l i 0) l
-getD-member [] i h = absurd (omega arith)
-getD-member (x ∷ l) zero h = List·Memᴰ·head refl
-getD-member (x ∷ l) (suc i) h = List·Memᴰ·tail (getD-member l i (omega arith))
 
 -- the label of a place is its word
 pub label-at : (n : ℕ) (w : List ℕ) (v : ℕ) → v < n → v < length w → costAt (labels n w) v ≡ wordOr (getD w v 0)
@@ -76,29 +68,7 @@ module _ (n : ℕ) (w : List ℕ) (u : ℕ) where
   row-nothing f h =
       filterMap-nothing f (arcIn u) h (rowsBelow n w u) (take (rowEnd n w u - rowStart n w u) (drop (arcsAt n + rowStart n w u) w))
 
--- ---- the arc at an index
-row-member : (n : ℕ) (w : List ℕ) (u k : ℕ) → rowStart n w u ≤ k → k < rowEnd n w u → arcsAt n + rowEnd n w u ≤ length w
-    → List·Memᴰ (arcIn u (getD w (arcsAt n + k) 0)) (row n w u)
-unfolding row
-row-member n w u k h g l =
-    let s : ℕ = rowStart n w u in
-    let rest : List ℕ = drop (arcsAt n + s) w in
-    let words : List ℕ = take (rowEnd n w u - s) rest in
-    let place : arcsAt n + s + (k - s) ≡ arcsAt n + k = omega arith in
-    let inside : k - s < length words = simp (length-take, length-drop) (omega arith) in
-    let word : getD words (k - s) 0 ≡ getD w (arcsAt n + k) 0
-    = getD-take (rowEnd n w u - s) rest (k - s) 0 (omega arith) ∙ getD-drop (arcsAt n + s) w (k - s) 0 ∙ ap (λ (i : ℕ). getD w i 0) place in
-    Memᴰ·map (arcIn u) (Memᴰ·cast (sym word) (getD-member words (k - s) inside))
-
-rows-member : (n : ℕ) (w : List ℕ) (u k : ℕ) (a : Arc) → u < k → List·Memᴰ a (row n w u) → List·Memᴰ a (rowsBelow n w k)
-unfolding rowsBelow
-rows-member n w u zero a h i = absurd (omega arith)
-rows-member n w u (suc k) a h i = go (ℕ-discrete u k) (rows-member n w u k a)
-  where
-    go : Dec (u ≡ k) → (u < k → List·Memᴰ a (row n w u) → List·Memᴰ a (rowsBelow n w k)) → List·Memᴰ a (rowsBelow n w k ++ row n w k)
-    go (yes e) rest = Memᴰ·append-right (rowsBelow n w k) (rw (← e) i)
-    go (no e) rest = Memᴰ·append-left (row n w k) (rest (omega arith) i)
-
+-- ---- rows and labels of a labelled area
 module _ (n : ℕ) (w : List ℕ) (g : Labelled n w) where
   pub few-places : n ≤ maxPlaces
   unfolding problemAt
@@ -128,7 +98,7 @@ module _ (n : ℕ) (w : List ℕ) (g : Labelled n w) where
       let h : u < n = v .row .place in
       let p : Problem = problemAt n (g .start) w in
       let x : ℕ = getD w (arcsAt n + k) 0 in
-      let is-arc : IsArc p (arcIn u x) = rows-member n w u n (arcIn u x) h (row-member n w u k (v .from-start) (omega (arith, v .is-end)) (row-room u h)) in
+      let is-arc : IsArc p (arcIn u x) = at-arc n w (g .arcs) (g .start) (g .holds) u k h (v .from-start) (omega (arith, v .is-end)) in
       let end-in : x / 65536 < n = g .holds .valid .arc-to (arcIn u x) is-arc in
       record {
         few = few-places;
@@ -152,62 +122,6 @@ pub row-goes-on : (n u k end : ℕ) (w : List ℕ) → InRow n u k end w → k <
 row-goes-on n u k end w v l =
     record { row = v .row; room = v .room; is-end = v .is-end; from-start = omega (arith, v .from-start); to-end = omega arith }
 
--- ---- a change before the row ends changes nothing of the problem
-module _ (n : ℕ) (w w₀ : List ℕ) (same : drop (endsAt n) w ≡ drop (endsAt n) w₀) where
-  pub word-kept : (i : ℕ) → endsAt n ≤ i → getD w i 0 ≡ getD w₀ i 0
-  word-kept i h =
-      let place : endsAt n + (i - endsAt n) ≡ i = omega arith in
-      simp (getD-drop, place) at (ap (λ (l : List ℕ). getD l (i - endsAt n) 0) same)
-
-  drop-kept : (i : ℕ) → endsAt n ≤ i → drop i w ≡ drop i w₀
-  drop-kept i h =
-      let place : endsAt n + (i - endsAt n) ≡ i = omega arith in
-      rw (← place, ← (drop-drop (i - endsAt n) (endsAt n) w), ← (drop-drop (i - endsAt n) (endsAt n) w₀)) (ap (drop (i - endsAt n)) same)
-
-  pub row-start-kept : (v : ℕ) → rowStart n w v ≡ rowStart n w₀ v
-  unfolding rowStart
-  row-start-kept zero = refl
-  row-start-kept (suc v) = word-kept (endsAt n + v) (omega arith)
-
-  pub row-end-kept : (v : ℕ) → rowEnd n w v ≡ rowEnd n w₀ v
-  unfolding rowEnd
-  row-end-kept v = word-kept (endsAt n + v) (omega arith)
-
-  pub rows-kept : (k : ℕ) → rowsBelow n w k ≡ rowsBelow n w₀ k
-  unfolding rowsBelow row
-  rows-kept zero = refl
-  rows-kept (suc k) =
-      rw (rows-kept k, row-start-kept k, row-end-kept k, drop-kept (arcsAt n + rowStart n w₀ k) (omega arith))
-
-  pub problem-kept : (start : ℕ) → problemAt n start w ≡ problemAt n start w₀
-  unfolding problemAt
-  problem-kept start =
-      rw (rows-kept n)
-      (ap (λ (f : ℕ → ℕ). with-estimates f w) (fun-ext (λ v. ap (λ (x : ℕ). cond (ltb v n) x 0) (word-kept (estimatesAt n + v) (omega arith))))
-      ∙ ap (λ (f : ℕ → Bool). with-goals f) (fun-ext (λ v. ap (λ (x : ℕ). not (eqb x 0)) (word-kept (goalsAt n + v) (omega arith)))))
-    where
-      with-goals : (ℕ → Bool) → Problem
-      with-goals f =
-          record {
-            places = n;
-            arcs = rowsBelow n w₀ n;
-            estimate = λ v. cond (ltb v n) (getD w₀ (estimatesAt n + v) 0) 0;
-            start = start;
-            goals = filter f (below n);
-            growth = 2;
-          }
-
-      with-estimates : (ℕ → ℕ) → List ℕ → Problem
-      with-estimates f l =
-          record {
-            places = n;
-            arcs = rowsBelow n w₀ n;
-            estimate = f;
-            start = start;
-            goals = filter (λ v. not (eqb (getD l (goalsAt n + v) 0) 0)) (below n);
-            growth = 2;
-          }
-
 -- labels and map are as before, and so is what a pass asks of the area
 pub labelled-kept : (n : ℕ) (w₀ w : List ℕ) → Kept n w₀ w → Labelled n w₀ → Labelled n w
 unfolding labels
@@ -215,12 +129,7 @@ labelled-kept n w₀ w k g =
     record {
       arcs = g .arcs;
       start = g .start;
-      holds = record {
-        valid = rw (problem-kept n w w₀ (k .same-map) (g .start)) (g .holds .valid);
-        room = omega (arith, k .same-length, g .holds .room);
-        row-rises = λ v h. rw (row-start-kept n w w₀ (k .same-map) v, row-end-kept n w w₀ (k .same-map) v) (g .holds .row-rises v h);
-        row-in = λ v h. rw (row-end-kept n w w₀ (k .same-map) v) (g .holds .row-in v h);
-      };
+      holds = holds-same n w w₀ (k .same-map) (g .arcs) (g .start) (k .same-length) (g .holds);
       label-below = λ v d. rw (k .same-labels) (g .label-below v d);
     }
 
@@ -233,7 +142,7 @@ in-row-kept n u k end w₀ w s v =
     record {
       row = record { few = v .row .few; place = v .row .place; room = omega (arith, s .same-length, v .row .room) };
       room = omega (arith, s .same-length, v .room);
-      is-end = rw (row-end-kept n w w₀ (s .same-map) u) (v .is-end);
-      from-start = rw (row-start-kept n w w₀ (s .same-map) u) (v .from-start);
+      is-end = rw (end-same n w w₀ (s .same-map) u) (v .is-end);
+      from-start = rw (start-same n w w₀ (s .same-map) u) (v .from-start);
       to-end = v .to-end;
     }

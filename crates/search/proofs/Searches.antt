@@ -24,7 +24,7 @@ use Rattle.search.specs.State.{Room, Blank, Arrives, Arrived, Coherent, 
 use Rattle.search.proofs.Settling.{not-both}
 use Rattle.search.proofs.Front.{begin-front, count-none}
 use Rattle.search.proofs.Words.{not-true-false, HasLabel, label-is, is-label, HasSettled, settled-is, is-settled}
-use Rattle.search.proofs.Maps.{problem-same, holds-same, goal-mark, mark-goal}
+use Rattle.map.proofs.Held.{problem-same, holds-same, goal-mark, mark-goal}
 use Rattle.search.proofs.Regions.{openEnd, open-part}
 use Rattle.search.proofs.Arcs.{coherent-length}
 

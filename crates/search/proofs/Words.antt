@@ -89,9 +89,6 @@ module _ (n : ℕ) (w : List ℕ) (room : n ≤ length w) where
   at-most v e h l s =
       record { cost = getD w v 0; is = is-label v (getD w v 0) (record { place = h; word = refl; some = λ q. omega arith }); below = l }
 
-  pub most-at : (v e : ℕ) → AtMost (costAt (labels n w) v) e → (v < n) × (getD w v 0 ≤ e)
-  most-at v e a = let l = label-is v (a .cost) (a .is) in (l .place, omega arith)
-
 -- a settled place has a label and no key
 pub record HasSettled (n m hand : ℕ) (w : List ℕ) (v : ℕ) : Type 0 where
   pub place : v < n

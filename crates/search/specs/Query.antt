@@ -1,15 +1,15 @@
 -- What one query asks of the area and leaves in it.
 use mathlib.Core.Path.{_≡_}
-use mathlib.Core.Bool.{Bool, true, false}
+use mathlib.Core.Bool.{true, false}
 use mathlib.Core.List.{List}
-use mathlib.Core.Option.{Option, none, some}
+use mathlib.Core.Option.{some}
 use Prim.Native.Nat.{ℕ, _^_, _≤_, _<_}
 use lib.ListN.{drop}
 use Rattle.map.specs.Layout.{Holds, problemAt, endsAt}
 use Rattle.model.specs.Problem.{Problem}
 use Rattle.model.specs.Costs.{Table, costAt, table}
 use Rattle.model.specs.Query as model
-use Rattle.model.specs.Query.{Key, firstGoal, query}
+use Rattle.model.specs.Query.{firstGoal, query}
 use Rattle.search.specs.Area.{labels}
 use Rattle.search.specs.declared.Outcome.{Outcome}
 use Rattle.search.specs.declared.Outcome.the-variants.{Ended, Over, Found, None}

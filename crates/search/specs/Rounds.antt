@@ -5,11 +5,8 @@ use mathlib.Core.Option.{Option, none, some}
 use Prim.Native.Nat.{ℕ}
 use lib.ListN.{drop}
 use Rattle.map.specs.Layout.{Holds, problemAt, endsAt}
-use Rattle.model.specs.Costs.{table}
-use Rattle.model.specs.Query.{Key, firstGoal}
 use Rattle.model.specs.Rounds as model
 use Rattle.model.specs.Rounds.{search}
-use Rattle.model.specs.Routes.{routeTo}
 use Rattle.model.specs.Answer as answer
 use Rattle.model.specs.Answer.{Ending, searched}
 use Rattle.search.specs.Area.{Follows}

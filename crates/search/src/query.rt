@@ -10,9 +10,6 @@ ghost use Rattle.search.specs.State.{Room, Blank, Arrives, Arrived, Rela
 
 const NONE: u32 = open_list::NONE;
 
-// An arc's word is its end, times this, and its cost.
-const END: u32 = 65536;
-
 // No place has a label, and none is open.
 fn clear(work: &mut [u32], n: usize, m: usize)
     requires { ⌜ Room n m (now work) ⌝ }
@@ -38,8 +35,8 @@ fn relax(work: &mut [u32], n: usize, m: usize, hand: u64, limit: u32, d: u32, x:
     requires { ⌜ Relaxes n m hand d x (now work) ⌝ }
     ensures { λ r. ⌜ Relaxed n m (ByArc n limit d x (now (work .entry))) hand (now (work .entry)) r (now (work .exit)) ⌝ }
 {
-    let v = (x / END) as usize;
-    let e = d + x % END;
+    let v = (x / layout::END) as usize;
+    let e = d + x % layout::END;
     if work[v] <= e {
         return hand;
     }
@@ -99,8 +96,8 @@ pub fn query(work: &mut [u32], size: Map, start: u32, limit: u32, budget: u32, l
     let mut count: u32 = 0;
     loop {
         let first = open_list::least(&work[n..end], m, hand);
-        let d = (first / 4294967296) as u32;
-        let place = (first % 4294967296) as usize;
+        let d = (first / open_list::KEY) as u32;
+        let place = (first % open_list::KEY) as usize;
         if d == NONE {
             return all_settled(work, n, count);
         }

@@ -8,9 +8,6 @@ ghost use Rattle.search.specs.Scans.{ArcWord, Crossed, LimitOver, LimitR
 
 const NONE: u32 = open_list::NONE;
 
-// An arc's word is its end, times this, and its cost.
-const END: u32 = 65536;
-
 // Where the row of place v begins among the arcs.
 pub fn row_start(work: &[u32], n: usize, v: usize) -> usize
     requires { ⌜ HasRow n v (now work) ⌝ }
@@ -27,11 +24,11 @@ fn crossing(work: &[u32], n: usize, d: u32, x: u32, least: u32) -> u32
     requires { ⌜ ArcWord n d x (now work) ⌝ }
     ensures { λ r. ⌜ Crossed n d x least (now (work .entry)) r ⌝ }
 {
-    let v = (x / END) as usize;
+    let v = (x / layout::END) as usize;
     if work[v] != NONE {
         return least;
     }
-    let sum = d + x % END + work[layout::estimates_at(n) + v];
+    let sum = d + x % layout::END + work[layout::estimates_at(n) + v];
     if sum < least { sum } else { least }
 }
 
@@ -74,8 +71,8 @@ fn parent_by(work: &mut [u32], n: usize, u: u32, d: u32, x: u32)
     requires { ⌜ ArcWord n d x (now work) ⌝ }
     ensures { λ _. ⌜ now (work .exit) ≡ parentStored n u d x (now (work .entry)) ⌝ }
 {
-    let v = (x / END) as usize;
-    if work[v] != d + x % END {
+    let v = (x / layout::END) as usize;
+    if work[v] != d + x % layout::END {
         return;
     }
     let at = layout::parents_at(n) + v;

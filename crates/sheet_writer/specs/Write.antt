@@ -1,7 +1,7 @@
 -- What the writer asks and leaves: the sheet is the definition's, byte for byte, and the bytes beyond it are as before.
 use mathlib.Core.Path.{_≡_}
 use mathlib.Core.List.{List}
-use Prim.Native.Nat.{ℕ, _+_, _*_, _^_, _≤_, _<_}
+use Prim.Native.Nat.{ℕ, _+_, _*_, _≤_, _<_}
 use lib.ListN.{length}
 use Rattle.map.specs.Layout.{endsAt}
 use Rattle.model.specs.Limits.{maxPlaces}

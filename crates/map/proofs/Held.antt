@@ -1,9 +1,9 @@
--- The map in the area: it depends on the words from the row ends on alone; its arcs are the words of its rows, its goals the marks.
--- Assumes nothing.
+-- A map that the work area holds: it depends on the words from the row ends on alone; its arcs are the words of its rows, its goals the
+-- marks. Assumes nothing.
 use mathlib.Core.Path.{_≡_, refl, sym, ap, _∙_}
-use mathlib.Core.Logic.{_⊎_, inl, inr}
+use mathlib.Core.Logic.{_⊎_, inl, inr, _↔_, ⊎-elim}
 use mathlib.Core.Bool.{cond, not}
-use mathlib.Core.List.{List, [], _∷_, _++_, map, List·Memᴰ, List·Memᴰ·head, List·Memᴰ·tail, List·Memᴰ·not-nil, List·Memᴰ·append-cases, Memᴰ·append-left, Memᴰ·append-right, Memᴰ·cast}
+use mathlib.Core.List.{List, [], _∷_, _++_, map, List·Memᴰ, List·Memᴰ·head, List·Memᴰ·tail, List·Memᴰ·not-nil, List·Memᴰ·append-cases, List·Memᴰ·eq-of-singleton, Memᴰ·append-left, Memᴰ·append-right, Memᴰ·cast}
 use Prim.Native.Nat.{ℕ, zero, suc, _+_, _-_, _/_, _%_, _≤_, _<_}
 use native.Mathlib.Omega.{arith}
 use native.Mathlib.Decide.{ℕ-discrete}
@@ -14,7 +14,21 @@ use borrow.Author.Tests.{lt-ltb, ne-eqb, eqb-false, not-true}
 use Rattle.model.specs.Lists.{filter}
 use Rattle.model.specs.Problem.{Arc, IsArc, IsGoal}
 use Rattle.model.proofs.Lists.{filter-member}
 use Rattle.map.specs.Layout.{endsAt, estimatesAt, goalsAt, arcsAt, rowStart, rowEnd, row, rowsBelow, arcIn, below, problemAt, Holds}
+
+-- the numbers below n
+pub below-member : (n g : ℕ) → List·Memᴰ g (below n) ↔ (g < n)
+unfolding below
+below-member zero g = (λ i. absurd (List·Memᴰ·not-nil i), λ l. absurd (omega arith))
+below-member (suc n) g = (down (below-member n g .0), up (below-member n g .1) (ℕ-discrete g n))
+  where
+    down : (List·Memᴰ g (below n) → g < n) → List·Memᴰ g (below n ++ (n ∷ [])) → g < suc n
+    down rest i =
+        ⊎-elim (λ m. omega (arith, rest m)) (λ m. omega (arith, List·Memᴰ·eq-of-singleton m)) (List·Memᴰ·append-cases (below n) i)
+
+    up : (g < n → List·Memᴰ g (below n)) → Dec (g ≡ n) → g < suc n → List·Memᴰ g (below n ++ (n ∷ []))
+    up rest (yes e) l = Memᴰ·append-right (below n) (List·Memᴰ·head e)
+    up rest (no e) l = Memᴰ·append-left (n ∷ []) (rest (omega arith))
 
 -- a member stands somewhere, and what stands somewhere is a member
 pub member-at : {A B : Type 0} (f : A → B) (d : A) (xs : List A) (y : B) → List·Memᴰ y (map f xs) → (i : ℕ) × (i < length xs) × (y ≡ f (getD xs i d))
@@ -39,12 +53,12 @@ module _ (n : ℕ) (w w₀ : List ℕ) (same : drop (endsAt n) w ≡ drop (endsA
       let q : i ≡ endsAt n + (i - endsAt n) = omega arith in
       rw (q, ← (drop-drop (i - endsAt n) (endsAt n) w), same) (drop-drop (i - endsAt n) (endsAt n) w₀)
 
-  start-same : (v : ℕ) → rowStart n w v ≡ rowStart n w₀ v
+  pub start-same : (v : ℕ) → rowStart n w v ≡ rowStart n w₀ v
   unfolding rowStart
   start-same zero = refl
   start-same (suc v) = map-word (endsAt n + v) (omega arith)
 
-  end-same : (v : ℕ) → rowEnd n w v ≡ rowEnd n w₀ v
+  pub end-same : (v : ℕ) → rowEnd n w v ≡ rowEnd n w₀ v
   unfolding rowEnd
   end-same v = map-word (endsAt n + v) (omega arith)
 
@@ -52,7 +66,7 @@ module _ (n : ℕ) (w w₀ : List ℕ) (same : drop (endsAt n) w ≡ drop (endsA
   unfolding row
   row-same v = rw (start-same v, end-same v, map-rest (arcsAt n + rowStart n w₀ v) (omega arith))
 
-  rows-same : (k : ℕ) → rowsBelow n w k ≡ rowsBelow n w₀ k
+  pub rows-same : (k : ℕ) → rowsBelow n w k ≡ rowsBelow n w₀ k
   unfolding rowsBelow
   rows-same zero = refl
   rows-same (suc k) = rw (rows-same k, row-same k)
@@ -146,15 +160,6 @@ module _ (n : ℕ) (w : List ℕ) where
       let word = word-number v (k - rowStart n w v) l in
       of-row n _ v h (Memᴰ·cast (ap (arcIn v) (rw q at (sym word))) (at-member (arcIn v) 0 (rowWords n w v) (k - rowStart n w v) room))
 
-  below-is : (k g : ℕ) → g < k → List·Memᴰ g (below k)
-  unfolding below
-  below-is zero g h = absurd (omega arith)
-  below-is (suc k) g h = go (ℕ-discrete g k) (λ l. below-is k g l)
-    where
-      go : Dec (g ≡ k) → (g < k → List·Memᴰ g (below k)) → List·Memᴰ g (below k ++ (k ∷ []))
-      go (yes q) rest = Memᴰ·append-right (below k) (List·Memᴰ·head q)
-      go (no q) rest = Memᴰ·append-left (k ∷ []) (rest (omega arith))
-
   -- a goal's mark is not 0, and a place with such a mark is a goal
   pub goal-mark : (start g : ℕ) → IsGoal (problemAt n start w) g → getD w (goalsAt n + g) 0 ≡ 0 → ⊥
   unfolding problemAt
@@ -162,7 +167,7 @@ module _ (n : ℕ) (w : List ℕ) where
 
   pub mark-goal : (start g : ℕ) → g < n → (getD w (goalsAt n + g) 0 ≡ 0 → ⊥) → IsGoal (problemAt n start w) g
   unfolding problemAt
-  mark-goal start g h m = filter-member _ (below n) g .1 (below-is n g h, rw (ne-eqb (getD w (goalsAt n + g) 0) 0 m))
+  mark-goal start g h m = filter-member _ (below n) g .1 (below-member n g .1 h, rw (ne-eqb (getD w (goalsAt n + g) 0) 0 m))
 
   pub estimate-word : (start v : ℕ) → v < n → problemAt n start w .estimate v ≡ getD w (estimatesAt n + v) 0
   unfolding problemAt
