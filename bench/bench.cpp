@@ -256,10 +256,12 @@ int main()
             return 1;
         }
         uint64_t expansions = 0;
-        double star = seconds([&] {
-            by_hand.read(input.data(), input.size(), lent.size(), other.size());
-            expansions = by_hand.a_star();
-        });
+        double star = 1e9;
+        for (int turn = 0; turn < 25; turn++)
+            star = std::min(star, seconds([&] {
+                                by_hand.read(input.data(), input.size(), lent.size(), other.size());
+                                expansions = by_hand.a_star();
+                            }));
         std::printf("%-28s %9.1f %9.1f %6.2f %10u | %9.1f %8.3f %10llu\n", m.name.c_str(), ours * 1e6, theirs * 1e6, ours / theirs, a.expansions, star * 1e6,
                     ours / star, static_cast<unsigned long long>(expansions));
         logs += std::log(ours / theirs);

@@ -1,8 +1,9 @@
 /* The functions that the R3 router's archives export for a host in C.
  *
- * A slice is passed as a pointer and a length, counted in elements. What is promised rests on three things that nobody checks:
- * no pointer is null, also where the length is 0; words are aligned as uint32_t is; and the areas that a call may write overlap
- * neither each other nor what it reads. */
+ * A slice is passed as a pointer and a length, counted in elements. What is promised rests on four things that nobody checks:
+ * no pointer is null, also where the length is 0; words are aligned as uint32_t is; the areas that a call may write overlap
+ * neither each other nor what it reads; and there is stack enough: 64 KiB for r3_sheet, and for r3_route, which puts a route down
+ * by a recursion with one call for each of its places, 320 KiB. */
 #ifndef R3_H
 #define R3_H
 
@@ -12,7 +13,7 @@
 /* libsheet_reader.a: asks one question of a sheet.
  * 0: the number of the read (0 a route, 17 no route, 18 and 19 refused)
  * 1: the cost      2: the count of places      3 + i: place i
- * A refused sheet, or a place beyond the last, gives 0 to every question but 0. */
+ * No route: cost 0, count 1, and place 0 is the start. A place beyond the last is 0. A refused sheet gives 0 to all but question 0. */
 uint32_t r3_sheet(const uint8_t *sheet, size_t length, uint32_t question);
 
 /* librouter.a: routes a job. The input is read; work and sheet are lent to the call; as many of the answer's seven numbers as

@@ -76,10 +76,6 @@ int main(int argc, char **argv)
         fprintf(stderr, "show: cannot read %s\n", name);
         return 2;
     }
-    if (length == 0) {
-        fprintf(stderr, "show: no input\n");
-        return 2;
-    }
     int status = show(sheet, length);
     free(sheet);
     return status;

@@ -47,9 +47,11 @@ int main(void)
     unsigned long cases = 0, wrong = 0, words, bytes, zeros, number[7];
     while (scanf("%2097151s %lu %lu %lu %lu %lu %lu %lu %lu %lu %lu %2097151s", hex, &words, &bytes, &number[0], &number[1], &number[2],
                  &number[3], &number[4], &number[5], &number[6], &zeros, sheet_hex) == 12) {
-        size_t length = unhex(hex, input), sheet_length = unhex(sheet_hex, expected);
-        if (words > WORK || bytes > SHEET || length > INPUT)
+        if (words > WORK || bytes > SHEET || strlen(hex) / 2 > INPUT || strlen(sheet_hex) / 2 > SHEET)
             return 2;
+        size_t length = unhex(hex, input), sheet_length = unhex(sheet_hex, expected);
+        static uint8_t before[INPUT];
+        memcpy(before, input - length, length);
         uint32_t *work = work_end - words, answer[9];
         uint8_t *sheet = sheet_end - bytes;
         for (size_t i = 0; i < words; i++)
@@ -59,7 +61,7 @@ int main(void)
         memset(answer, 0xee, sizeof answer);
         size_t room = cases % 10 == 3 ? cases / 10 % 8 : 9; /* short answers too */
         uint32_t got = r3_route(input - length, length, work, words, sheet, bytes, answer, room);
-        int bad = got != number[0];
+        int bad = got != number[0] || memcmp(input - length, before, length) != 0;
         for (size_t i = 0; i < 9; i++)
             bad |= answer[i] != (i < 7 && i < room ? number[i] : 0xeeeeeeeeu);
         for (size_t i = 0; i < words; i++)

@@ -4,7 +4,7 @@ import itertools
 import random
 import sys
 
-from reference import ARCS, ESTIMATE, GOALS, PLACES, arc, estimate, frame, head, job, p16, record, route, u16
+from reference import ARCS, ESTIMATE, GOALS, PLACES, arc, estimate, head, job, p16, record, route, u16
 
 LIMIT = 65535
 
@@ -78,6 +78,10 @@ def limits():
     case(head(2, 0) + job(0, 9, [1], 2))
     case(head(2, 0) + record(4, bytes(7)))
     for data in (b'', b'\0', b'\4\0\1\0', head(1, 0), job(0, 1, [0]), head(1, 0) + bytes(4), head(1, 0) + job(0, 1, [0]) + b'\0'):
+        case(data)
+    for data in (record(1, p16(3) + p16(0) + b'\0') + job(0, 9, [1]), head(3, 1) + record(2, arc(0, 1, 2)[4:] + b'\0') + job(0, 9, [1]),
+                 head(3, 2) + arc(0, 1, 1) + job(0, 9, [1]), head(3, 1) + arc(3, 0, 1) + job(0, 9, [1]), head(3, 1) + arc(0, 3, 1) + job(0, 9, [1]),
+                 head(3, 1) + job(0, 9, [1]) + arc(0, 1, 1), head(3, 0) + job(0, 9, [3]), head(3, 0) + job(0, 9, [2, 1])):
         case(data)
     one = head(3, 1) + arc(0, 1, 1) + job(0, 708, [1])
     for words, sheet in ((50, 16), (51, 17), (49, 16), (50, 15)):

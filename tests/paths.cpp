@@ -1,5 +1,6 @@
 // Random maps against a second search by other authors: the Boost Graph Library says whether a goal can be reached, and at what least cost.
-// Estimates are 0, or a part of the true least cost that Boost gives from each place to a goal, so that none overstates.
+// Estimates are 0, or a part of the true least cost that Boost gives from each place to a goal, so that none overstates. In every fifth map they
+// are any numbers: whether there is a route must still be right, and the route is one, but may be dearer.
 #include <boost/graph/adjacency_list.hpp>
 #include <boost/graph/dijkstra_shortest_paths.hpp>
 
@@ -88,6 +89,7 @@ int main()
         for (unsigned g = below(places); g < places && goals.size() < 5; g += 1 + below(places))
             goals.push_back(g);
         unsigned start = below(places);
+        bool bad = turn % 5 == 4;
         std::vector<long> to_goal = least_costs(places, arcs, goals, true);
         std::vector<uint8_t> input;
         begin(input, 4, 1);
@@ -103,7 +105,7 @@ int main()
             if (turn % 4 != 0 && below(3) != 0) {
                 begin(input, 6, 3);
                 put(input, v, 2);
-                put(input, to_goal[v] == unreached ? below(1000) : below(static_cast<unsigned>(to_goal[v]) + 1), 4);
+                put(input, to_goal[v] == 0 ? 0 : bad ? below(turn % 2 == 0 ? 268435456 : 3 * dear) : to_goal[v] == unreached ? below(1000) : below(static_cast<unsigned>(to_goal[v]) + 1), 4);
             }
         begin(input, 8 + 2 * static_cast<unsigned>(goals.size()), 4);
         put(input, start, 2);
@@ -116,7 +118,7 @@ int main()
         uint32_t number = r3_route(input.data(), input.size(), work.data(), work.size(), sheet.data(), sheet.size(), answer.data(), answer.size());
         long cheapest = to_goal[start];
         bool right = cheapest == unreached ? number == 17 && field(sheet.data() + 4) == start
-                                           : number == 0 && answer[1] == cheapest && is_route(sheet.data(), cheapest, start, goals, arcs);
+                                           : number == 0 && (bad ? answer[1] >= cheapest : answer[1] == cheapest) && is_route(sheet.data(), answer[1], start, goals, arcs);
         (cheapest == unreached ? none : routes)++;
         if (!right) {
             wrong++;

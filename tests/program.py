@@ -50,6 +50,8 @@ def by_hand():
     yield head(2, 1) + arc(0, 1, 0) + job(0, 9, [1]), '7 0 0 0 0 0\n'
     yield head(2, 1) + arc(0, 1, 1) + estimate(0, 268435456) + job(0, 9, [1]), '8 0 0 0 0 0\n'
     yield b'', '4 0 0 0 0 0\n'
+    yield head(1024, 0) + job(0, 0, [0]), '0 0 0 0 0 1\n0\n'  # takes all 16,384 words
+    yield head(1024, 1) + arc(0, 0, 1) + job(0, 0, [0]), '14 0 0 0 0 0\n'
     yield bytes(INPUT + 1), 'too long\n'
 
 

@@ -86,7 +86,7 @@ def host(show, folder):
         number, cost, places = read(b)
         want = {0: (0, f'route, cost {cost}, places {len(places)}: {" ".join(map(str, places))}\n'), 17: (0, f'no route from {"".join(map(str, places))}\n')}
         code, out, err = run(data=b)
-        expected = want.get(number, (1, '')) if b else (2, '')
+        expected = want.get(number, (1, ''))
         wrong += (code, out) != expected or (code != 0) != (err != '')
     path = os.path.join(folder, 'sheet')
     with open(path, 'wb') as f:

@@ -1,13 +1,31 @@
--- The laws of parts: what a store, or a part that has come back, does to a part.
+-- Lists that agree before or after a point; parts of lists, and what a store, or a part that has come back, does to a part.
 -- Assumes nothing.
 use mathlib.Core.Path.{_≡_, sym, ap, _∙_}
 use mathlib.Core.List.{List, _++_}
 use Prim.Native.Nat.{ℕ, _+_, _-_, _<_, _≤_}
 use native.Mathlib.Omega.{arith}
 use lib.ListN.{length, getD, take, drop, set, length-take, length-drop, take-append-drop}
-use lib.Seq.{drop-set-lt, length-take-le, take-at, drop-at, drop-drop, drop-append-le, take-append-le, getD-take, getD-drop}
+use lib.Seq.{drop-set-lt, length-take-le, take-at, drop-at, take-take, drop-drop, drop-append-le, take-append-le, getD-take, getD-drop}
 use borrow.Rule.Slice.PartMut.{putMid, drop-put, same-len-mid}
 use Rattle.area.specs.Part.{part}
+
+-- words before a point that is the same, and after it
+pub same-before : (k : ℕ) (w₀ w : List ℕ) (i : ℕ) → take k w ≡ take k w₀ → i < k → getD w i 0 ≡ getD w₀ i 0
+same-before k w₀ w i same l = sym (getD-take k w i 0 l) ∙ ap (λ (xs : List ℕ). getD xs i 0) same ∙ getD-take k w₀ i 0 l
+
+pub same-after : (k : ℕ) (w₀ w : List ℕ) (i : ℕ) → drop k w ≡ drop k w₀ → k ≤ i → getD w i 0 ≡ getD w₀ i 0
+same-after k w₀ w i same l =
+    let at : i ≡ k + (i - k) = omega arith in
+    rw at (sym (getD-drop k w (i - k) 0) ∙ ap (λ (xs : List ℕ). getD xs (i - k) 0) same ∙ getD-drop k w₀ (i - k) 0)
+
+-- what stands before a point, or after one, stands before an earlier one, or after a later one
+pub less-before : (j k : ℕ) (w₀ w : List ℕ) → j ≤ k → take k w ≡ take k w₀ → take j w ≡ take j w₀
+less-before j k w₀ w l same = sym (take-take j k w l) ∙ ap (take j) same ∙ take-take j k w₀ l
+
+pub less-after : (j k : ℕ) (w₀ w : List ℕ) → k ≤ j → drop k w ≡ drop k w₀ → drop j w ≡ drop j w₀
+less-after j k w₀ w l same =
+    let at : j ≡ k + (j - k) = omega arith in
+    rw at (sym (drop-drop (j - k) k w) ∙ ap (drop (j - k)) same ∙ drop-drop (j - k) k w₀)
 
 pub part-length : (a e : ℕ) (xs : List ℕ) → e ≤ length xs → length (part a e xs) ≡ e - a
 unfolding part
@@ -43,9 +61,7 @@ part-back-low a e xs ys b f h l g i =
 
 -- a part after it
 pub drop-back : (a e : ℕ) (xs ys : List ℕ) (b : ℕ) → a ≤ e → e ≤ length xs → length ys ≡ length (part a e xs) → e ≤ b → drop b (putMid a (e - a) xs ys) ≡ drop b xs
-drop-back a e xs ys b h l g i =
-    let q : b ≡ e + (b - e) = omega arith in
-    rw (q, ← (drop-drop (b - e) e (putMid a (e - a) xs ys)), drop-put a e xs ys h l (g ∙ part-length a e xs l)) (drop-drop (b - e) e xs)
+drop-back a e xs ys b h l g i = less-after b e xs (putMid a (e - a) xs ys) i (drop-put a e xs ys h l (g ∙ part-length a e xs l))
 
 pub back-length : (a e : ℕ) (xs ys : List ℕ) → length ys ≡ length (part a e xs) → length (putMid a (e - a) xs ys) ≡ length xs
 unfolding part

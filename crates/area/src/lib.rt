@@ -59,7 +59,7 @@ pub fn fill(s: &mut [u32], value: u32)
     }
 }
 
-// Writes a number below 2^16 as the 2-byte field that begins at byte i.
+// Writes the low 16 bits of x as the 2-byte field that begins at byte i.
 pub fn put16(s: &mut [u8], i: usize, x: u32)
     requires { ⌜ i + 1 < length (now s) ⌝ }
     ensures { λ _. ⌜ now (s .exit) ≡ sets (now (s .entry)) i (bytes16 x) ⌝ }

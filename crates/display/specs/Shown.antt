@@ -11,7 +11,8 @@ use Rattle.display.specs.declared.Shown.{Shown}
 abbrev pub within : ℕ → ℕ → ℕ → Bool
 within a b n = leb a n && leb n b
 
--- "0 green, 1 to 13 red, 14 and 15 amber, 16 blue, 17 white, 18 and 19 red, others dark"
+-- "0 green, 1 to 13 red, 14 and 15 amber, 16 blue, 17 white, 18 and 19 red, later refusals of a map or job red, others dark"; there is no later
+-- refusal yet
 unfoldable pub lampOf : ℕ → Lamp
 lampOf n =
     cond (eqb n 0) Green

@@ -3,7 +3,7 @@ pub mod lamps;
 
 pub use lamps::Lamp;
 use sheet_reader::FOUND;
-use sheet_reader::NO_WAY;
+use sheet_reader::NO_ROUTE;
 use sheet_reader::PLACES;
 ghost use mathlib.Core.Path.{_≡_};
 ghost use Rattle.sheet_reader.specs.Sheets.{readSheet};
@@ -41,7 +41,7 @@ pub fn show(sheet: &[u8]) -> Shown
     let places = reading.places;
     let lamp = lamp(number);
     match number {
-        FOUND | NO_WAY => Shown {
+        FOUND | NO_ROUTE => Shown {
             lamp,
             cost: reading.cost,
             count: reading.count,

@@ -1,13 +1,13 @@
 -- What pass 2 notes of all records is what the model says of their arcs and estimates. Assumes nothing.
 use mathlib.Core.Path.{_≡_, refl, ap, ap₂, sym, _∙_}
 use mathlib.Core.Bool.{Bool, true, false, cond, _&&_, _||_, or-false, or-assoc}
-use mathlib.Core.List.{List, [], _∷_, foldl, map}
+use mathlib.Core.List.{List, [], _∷_, foldl}
 use Prim.Native.Nat.{ℕ}
 use lib.Dec.{ltb, leb, eqb}
 use borrow.Author.Tests.{eqb-true}
 use Rattle.map.specs.Fields.{marked, markedBy, Noted, noted, withArc, withEstimate, note}
 use Rattle.map.proofs.Marks.{twiceIn}
-use Rattle.map.proofs.RecordKinds.{some-sets, any-or, any-bodies, bodies-cons}
+use Rattle.map.proofs.RecordKinds.{some-sets, any-or, any-bodies, estimates-estimate, estimates-other}
 use Rattle.model.specs.Framing.{Record}
 use Rattle.model.specs.Input.{arcKind, estimateKind, bodies, arcOf, arcsOf, Estimate, estimateOf, estimatesOf}
 use Rattle.model.specs.Lists.{any, filterMap}
@@ -90,22 +90,13 @@ module _ (n : ℕ) where
       some-sets (note n) (λ q. q .fields .large) _ large-step p rs
       ∙ ap (λ (t : Bool). p .fields .large || t) (any-bodies estimateKind isLarge estimateOf rs)
 
-  estimates-are : (r : Record) (rs : List Record) → eqb (r .kind) estimateKind ≡ true
-      → estimatesOf (r ∷ rs) ≡ estimateOf (r .body) ∷ estimatesOf rs
-  unfolding estimatesOf
-  estimates-are r rs e = ap (map estimateOf) (bodies-cons estimateKind r rs true e)
-
-  estimates-not : (r : Record) (rs : List Record) → eqb (r .kind) estimateKind ≡ false → estimatesOf (r ∷ rs) ≡ estimatesOf rs
-  unfolding estimatesOf
-  estimates-not r rs e = ap (map estimateOf) (bodies-cons estimateKind r rs false e)
-
   pub marks-noted : (p : Noted) (rs : List Record) → foldl (note n) p rs .marks ≡ foldl (markedBy n) (p .marks) (estimatesOf rs)
   unfolding estimatesOf bodies filterMap withArc withEstimate
   marks-noted p [] = refl
   marks-noted p (r ∷ rs) =
       marks-noted (note n p r) rs
       ∙ by-kind n p r (λ q. foldl (markedBy n) (q .marks) (estimatesOf rs) ≡ foldl (markedBy n) (p .marks) (estimatesOf (r ∷ rs)))
-      (λ a e. rw (estimates-not r rs e)) (λ a e. rw (estimates-are r rs e)) (λ a e. rw (estimates-not r rs e))
+      (λ a e. rw (estimates-other r rs e)) (λ a e. rw (estimates-estimate r rs e)) (λ a e. rw (estimates-other r rs e))
 
   pub twice-noted : (p : Noted) (rs : List Record)
       → foldl (note n) p rs .fields .twice ≡ (p .fields .twice || twiceIn n (p .marks) (estimatesOf rs))
@@ -114,4 +105,4 @@ module _ (n : ℕ) where
   twice-noted p (r ∷ rs) =
       twice-noted (note n p r) rs
       ∙ by-kind n p r (λ q. (q .fields .twice || twiceIn n (q .marks) (estimatesOf rs)) ≡ (p .fields .twice || twiceIn n (p .marks) (estimatesOf (r ∷ rs))))
-      (λ a e. rw (estimates-not r rs e)) (λ a e. rw (estimates-are r rs e) (or-assoc (p .fields .twice) (marked n (p .marks) (estimateOf (r .body) .place)) _)) (λ a e. rw (estimates-not r rs e))
+      (λ a e. rw (estimates-other r rs e)) (λ a e. rw (estimates-estimate r rs e) (or-assoc (p .fields .twice) (marked n (p .marks) (estimateOf (r .body) .place)) _)) (λ a e. rw (estimates-other r rs e))

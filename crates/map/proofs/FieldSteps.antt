@@ -3,64 +3,51 @@ use mathlib.Core.Path.{_≡_, refl, ap, sym, _∙_}
 use mathlib.Core.Bool.{false, _||_}
 use mathlib.Core.List.{List, [], foldl}
 use mathlib.Core.Logic.{_≢_}
-use Prim.Native.Nat.{ℕ, _+_, _-_, _≤_, _<_}
+use Prim.Native.Nat.{ℕ, _+_, _≤_}
 use native.Mathlib.Omega.{arith}
 use lib.Dec.{leb, eqb}
 use lib.ListN.{length, getD, drop}
-use borrow.Author.Tests.{eqb-true, not-false, eq-eqb, ne-eqb}
+use borrow.Author.Tests.{eq-eqb, ne-eqb}
 use Rattle.map.specs.declared.record.Read.the-variants.{Whole}
 use Rattle.map.specs.declared.record as declared
-use Rattle.map.specs.Records.{readAt}
-use Rattle.map.specs.Survey.{recordIn}
+use Rattle.map.specs.Records.{readAt, recordIn}
 use Rattle.map.specs.Fields.{arcAt, estimateAt, Noted, noted, nothing, withArc, withEstimate, note, Fitting, Ready, Walked, Checked}
 use Rattle.map.proofs.RecordKinds.{any-map}
 use Rattle.map.proofs.Records.{frame-whole}
-use Rattle.map.proofs.Misfits.{body-u16, arc-misfits, estimate-misfits}
+use Rattle.map.proofs.Misfits.{arc-length, estimate-length}
+use Rattle.map.proofs.Bodies.{ArcRead, EstimateRead, arc-read, estimate-read}
 use Rattle.map.proofs.Marks.{mark-two, twice-repeats}
 use Rattle.map.proofs.FieldLaws.{outside-noted, free-noted, large-noted, marks-noted, twice-noted}
-use Rattle.model.specs.Bytes.{u16, u32}
 use Rattle.model.specs.Framing.{Record, Framed, push, frame}
-use Rattle.model.specs.Input.{arcKind, estimateKind, arcOf, arcsOf, Estimate, estimateOf, estimatesOf}
+use Rattle.model.specs.Input.{arcKind, estimateKind, arcsOf, Estimate, estimatesOf}
 use Rattle.model.specs.Lists.{any}
 use Rattle.model.specs.Problem.{Arc}
 use Rattle.model.specs.Refusals.{misfits, wrongLength, outsideMap, freeArc, largeEstimate, twoEstimates}
 use Rattle.model.proofs.Lists.{or-false}
 
 module _ (input : List ℕ) (n : ℕ) (r : declared.Record.Record) (f : Fitting input n r) where
-  arc-length : r .kind ≡ arcKind → r .end - r .start ≡ 6
-  arc-length e = eqb-true _ _ (not-false _ (arc-misfits input r (f .forward) (f .ends) e ∙ f .fits))
+  arc : r .kind ≡ arcKind → ArcRead input r
+  arc e = arc-read input r (arc-length (recordIn input r) e (f .fits))
 
-  estimate-length : r .kind ≡ estimateKind → r .end - r .start ≡ 6
-  estimate-length e = eqb-true _ _ (not-false _ (estimate-misfits input r (f .forward) (f .ends) e ∙ f .fits))
+  estimate : r .kind ≡ estimateKind → EstimateRead input r
+  estimate e = estimate-read input r (estimate-length (recordIn input r) e (f .fits))
 
   pub arc-room : r .kind ≡ arcKind → r .start + 6 ≤ length input
-  arc-room e = omega (arith, arc-length e, f .ends)
+  arc-room e = arc e .inside
 
   pub estimate-room : r .kind ≡ estimateKind → r .start + 6 ≤ length input
-  estimate-room e = omega (arith, estimate-length e, f .ends)
-
-  field : (i j : ℕ) → r .end - r .start ≡ 6 → i < 5 → j ≡ r .start + i → u16 (recordIn input r .body) i ≡ u16 input j
-  field i j six h e = body-u16 input r (f .forward) (f .ends) i j (omega arith) e
+  estimate-room e = estimate e .inside
 
   pub arc-noted : (p : Noted) → r .kind ≡ arcKind
       → noted (withArc n (p .fields) (arcAt input (r .start))) (p .marks) ≡ note n p (recordIn input r)
-  unfolding note arcOf
-  arc-noted p e =
-      let six = arc-length e in
-      let from = field 0 (r .start) six (omega arith) (omega arith) in
-      let to = field 2 (r .start + 2) six (omega arith) refl in
-      let cost = field 4 (r .start + 4) six (omega arith) refl in
-      simp (eq-eqb (r .kind) 2 e, from, to, cost)
+  unfolding note
+  arc-noted p e = simp (eq-eqb (r .kind) 2 e, arc e .from, arc e .to, arc e .cost)
 
   pub estimate-noted : (p : Noted) → r .kind ≡ estimateKind → withEstimate n p (estimateAt input (r .start)) ≡ note n p (recordIn input r)
-  unfolding note estimateOf u32
+  unfolding note
   estimate-noted p e =
-      let six = estimate-length e in
-      let place = field 0 (r .start) six (omega arith) (omega arith) in
-      let low = field 2 (r .start + 2) six (omega arith) refl in
-      let high = field 4 (r .start + 2 + 2) six (omega arith) (omega arith) in
       let not-arc : eqb (r .kind) 2 ≡ false = ne-eqb (r .kind) 2 (λ z. omega arith) in
-      simp (not-arc, eq-eqb (r .kind) 3 e, place, low, high)
+      simp (not-arc, eq-eqb (r .kind) 3 e, estimate e .place, estimate e .value)
 
   pub other-noted : (p : Noted) → r .kind ≢ arcKind → r .kind ≢ estimateKind → p ≡ note n p (recordIn input r)
   unfolding note
@@ -105,9 +92,7 @@ module _ (input : List ℕ) (n : ℕ) (marks₀ : List ℕ) (at : ℕ) (p : Note
       or-false _ _ (sym (ap (λ (f : Framed). wrongLength (f .records)) (is .framed)) ∙ w .fit)
 
   pub walk-fitting : n ≤ 4096 → Fitting input n r
-  walk-fitting few =
-      let is = frame-whole input at (w .inside) r found in
-      record { forward = is .forward; ends = is .ends; fits = first-fits .0; few = few }
+  walk-fitting few = record { fits = first-fits .0; few = few }
 
   pub walk-again : (q : Noted) → q ≡ note n p (recordIn input r) → Walked input n marks₀ (r .end) q
   unfolding push

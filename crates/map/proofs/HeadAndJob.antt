@@ -10,9 +10,10 @@ use borrow.Author.Tests.{eqb-true, not-false, ltb-false}
 use Rattle.map.specs.declared.record.Read.{Read}
 use Rattle.map.specs.declared.record.Read.the-variants.{Whole, Broken, End}
 use Rattle.map.specs.declared.record as declared
-use Rattle.map.specs.Records.{readAt}
-use Rattle.map.specs.Survey.{recordIn, lastBody}
-use Rattle.map.proofs.Misfits.{body-u16, head-misfits, job-fits}
+use Rattle.map.specs.Records.{readAt, recordIn}
+use Rattle.map.specs.Survey.{lastBody}
+use Rattle.map.proofs.Misfits.{head-misfits, job-fits}
+use Rattle.map.proofs.Parts.{u16-part}
 use Rattle.map.proofs.RecordKinds.{bodies-cons, count-cons}
 use Rattle.map.proofs.Records.{frame-end, frame-broken, frame-whole}
 use Rattle.model.specs.Bytes.{u16}
@@ -49,10 +50,11 @@ module _ (input : List ℕ) (fit : wrongLength (frame input .records) ≡ false)
       let fits : misfits (recordIn input r) ≡ false = or-false _ _ (rw framed at fit) .0 in
       let len : r .end - r .start ≡ 4 = eqb-true _ _ (not-false _ (head-misfits input r forward ends (eqb-true _ _ is-head) ∙ fits)) in
       let body : firstBody headKind (frame input .records) ≡ recordIn input r .body = rw framed (first-is headKind (recordIn input r) (rest .records) is-head) in
+      let field = u16-part input (r .start) (r .end - r .start) in
       record {
         long = omega arith;
-        places = sym (body-u16 input r forward ends 0 4 (omega arith) (omega arith)) ∙ ap (λ (b : List ℕ). u16 b 0) (sym body);
-        arcs = sym (body-u16 input r forward ends 2 6 (omega arith) (omega arith)) ∙ ap (λ (b : List ℕ). u16 b 2) (sym body);
+        places = sym (field 0 4 (omega arith) (omega arith)) ∙ ap (λ (b : List ℕ). u16 b 0) (sym body);
+        arcs = sym (field 2 6 (omega arith) (omega arith)) ∙ ap (λ (b : List ℕ). u16 b 2) (sym body);
       }
 
   pub head-first : HeadFirst input

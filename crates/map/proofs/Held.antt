@@ -9,11 +9,12 @@ use native.Mathlib.Omega.{arith}
 use native.Mathlib.Decide.{ℕ-discrete}
 use lib.Dec.{eqb, ltb}
 use lib.ListN.{length, getD, take, drop, length-take, length-drop}
-use lib.Seq.{getD-take, getD-drop, drop-drop}
+use lib.Seq.{getD-take, getD-drop}
 use borrow.Author.Tests.{lt-ltb, ne-eqb, eqb-false, not-true}
 use Rattle.model.specs.Lists.{filter}
 use Rattle.model.specs.Problem.{Arc, IsArc, IsGoal}
 use Rattle.model.proofs.Lists.{filter-member}
+use Rattle.area.proofs.Parts.{same-after, less-after}
 use Rattle.map.specs.Layout.{endsAt, estimatesAt, goalsAt, arcsAt, rowStart, rowEnd, row, rowsBelow, arcIn, below, problemAt, Holds}
 
 -- the numbers below n
@@ -44,14 +45,10 @@ at-member f d (x ∷ xs) (suc i) h = List·Memᴰ·tail (at-member f d xs i (ome
 module _ (n : ℕ) (w w₀ : List ℕ) (same : drop (endsAt n) w ≡ drop (endsAt n) w₀) where
   -- a word of the map
   pub map-word : (i : ℕ) → endsAt n ≤ i → getD w i 0 ≡ getD w₀ i 0
-  map-word i h =
-      let q : i ≡ endsAt n + (i - endsAt n) = omega arith in
-      rw (q, ← (getD-drop (endsAt n) w (i - endsAt n) 0), same) (getD-drop (endsAt n) w₀ (i - endsAt n) 0)
+  map-word i h = same-after (endsAt n) w₀ w i same h
 
   map-rest : (i : ℕ) → endsAt n ≤ i → drop i w ≡ drop i w₀
-  map-rest i h =
-      let q : i ≡ endsAt n + (i - endsAt n) = omega arith in
-      rw (q, ← (drop-drop (i - endsAt n) (endsAt n) w), same) (drop-drop (i - endsAt n) (endsAt n) w₀)
+  map-rest i h = less-after i (endsAt n) w₀ w h same
 
   pub start-same : (v : ℕ) → rowStart n w v ≡ rowStart n w₀ v
   unfolding rowStart
@@ -106,7 +103,8 @@ abbrev rowWords : ℕ → List ℕ → ℕ → List ℕ
 rowWords n w v = take (rowEnd n w v - rowStart n w v) (drop (arcsAt n + rowStart n w v) w)
 
 module _ (n : ℕ) (w : List ℕ) where
-  row-of : (k : ℕ) (a : Arc) → List·Memᴰ a (rowsBelow n w k) → (v : ℕ) × (v < k) × List·Memᴰ a (row n w v)
+  -- an arc of the rows is in the row of a place, and an arc of a row is one of the rows
+  pub row-of : (k : ℕ) (a : Arc) → List·Memᴰ a (rowsBelow n w k) → (v : ℕ) × (v < k) × List·Memᴰ a (row n w v)
   unfolding rowsBelow
   row-of zero a i = absurd (List·Memᴰ·not-nil i)
   row-of (suc k) a i = go (List·Memᴰ·append-cases (rowsBelow n w k) i) (row-of k a)
@@ -116,7 +114,7 @@ module _ (n : ℕ) (w : List ℕ) where
       go (inl j) rest = let r = rest j in (r .0, omega (arith, r .1), r .2)
       go (inr j) rest = (k, omega arith, j)
 
-  of-row : (k : ℕ) (a : Arc) (v : ℕ) → v < k → List·Memᴰ a (row n w v) → List·Memᴰ a (rowsBelow n w k)
+  pub of-row : (k : ℕ) (a : Arc) (v : ℕ) → v < k → List·Memᴰ a (row n w v) → List·Memᴰ a (rowsBelow n w k)
   unfolding rowsBelow
   of-row zero a v h i = absurd (omega arith)
   of-row (suc k) a v h i = go (ℕ-discrete v k) (λ l. of-row k a v l i)

@@ -34,7 +34,7 @@ mark-positive x = go (eqb x 0)
     go false = refl
 
 module _ (n : ℕ) (m : List ℕ) (room : n ≤ length m) (e : Estimate) where
-  pub marked-length : length (markedBy n m e) ≡ length m
+  marked-length : length (markedBy n m e) ≡ length m
   unfolding markedBy
   marked-length = go (ltb (e .place) n && eqb (getD m (e .place) 0) 0)
     where
@@ -118,10 +118,11 @@ module _ (n v : ℕ) (inside : v < n) where
       → eqb (getD (foldl (markedBy n) m es) v 0) 2 ≡ not (eqb (lookup es v) 0)
   mark-two es m room clear = let first = first-marks es m room in rw (first, clear) (first-lookup es)
 
-module _ (n : ℕ) where
-  abbrev placesOf : List Estimate → List ℕ
-  placesOf es = map (λ (e : Estimate). e .place) es
+-- the places of the estimates
+abbrev pub placesIn : List Estimate → List ℕ
+placesIn es = map (λ (e : Estimate). e .place) es
 
+module _ (n : ℕ) where
   any-marked : (m : List ℕ) (room : n ≤ length m) (e : Estimate) (ps : List ℕ) → any (leb n) ps ≡ false
       → any (marked n (markedBy n m e)) ps ≡ (member (e .place) ps || any (marked n m) ps)
   unfolding member
@@ -131,13 +132,13 @@ module _ (n : ℕ) where
       ∙ any-or (eqb (e .place)) (marked n m) ps
 
   -- of places of the map, an estimate meets a mark where two estimates have one place
-  twice-marked : (es : List Estimate) (m : List ℕ) → n ≤ length m → any (leb n) (placesOf es) ≡ false
-      → twiceIn n m es ≡ (any (marked n m) (placesOf es) || repeats (placesOf es))
+  twice-marked : (es : List Estimate) (m : List ℕ) → n ≤ length m → any (leb n) (placesIn es) ≡ false
+      → twiceIn n m es ≡ (any (marked n m) (placesIn es) || repeats (placesIn es))
   unfolding twiceIn any repeats
   twice-marked [] m room inside = refl
   twice-marked (e ∷ es) m room inside =
       let rest = or-false (leb n (e .place)) _ inside .1 in
-      let ps = placesOf es in
+      let ps = placesIn es in
       ap (λ (t : Bool). marked n m (e .place) || t)
       (twice-marked es (markedBy n m e) (rw (marked-length n m room e) room) rest
       ∙ ap (λ (t : Bool). t || repeats ps) (any-marked m room e ps rest))
@@ -154,6 +155,6 @@ module _ (n : ℕ) where
   clear-marked m clear [] = refl
   clear-marked m clear (p ∷ ps) = simp (clear p, and-false, clear-marked m clear ps)
 
-  pub twice-repeats : (es : List Estimate) (m : List ℕ) → n ≤ length m → ((v : ℕ) → getD m v 0 ≡ 0) → any (leb n) (placesOf es) ≡ false
-      → twiceIn n m es ≡ repeats (placesOf es)
-  twice-repeats es m room clear inside = twice-marked es m room inside ∙ rw (clear-marked m clear (placesOf es))
+  pub twice-repeats : (es : List Estimate) (m : List ℕ) → n ≤ length m → ((v : ℕ) → getD m v 0 ≡ 0) → any (leb n) (placesIn es) ≡ false
+      → twiceIn n m es ≡ repeats (placesIn es)
+  twice-repeats es m room clear inside = twice-marked es m room inside ∙ rw (clear-marked m clear (placesIn es))

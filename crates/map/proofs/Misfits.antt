@@ -3,14 +3,14 @@ use mathlib.Core.Path.{_≡_, refl, ap, sym, _∙_}
 use mathlib.Core.Bool.{Bool, true, false, not, _||_, or-false}
 use mathlib.Core.List.{List}
 use mathlib.Core.Logic.{_≢_}
-use Prim.Native.Nat.{ℕ, _+_, _-_, _*_, _≤_, _<_}
+use Prim.Native.Nat.{ℕ, _+_, _-_, _*_, _≤_}
 use native.Mathlib.Omega.{arith}
 use lib.Dec.{ltb, eqb}
-use lib.ListN.{length, drop, length-take, length-drop}
-use borrow.Author.Tests.{ne-eqb, ltb-false}
+use lib.ListN.{length, length-take, length-drop}
+use borrow.Author.Tests.{eqb-true, ne-eqb, ltb-false, not-false}
 use Rattle.map.specs.declared.record.Record.{Record}
-use Rattle.map.specs.Survey.{recordIn}
-use Rattle.map.proofs.Parts.{u16-drop, u16-take}
+use Rattle.map.specs.Records.{recordIn}
+use Rattle.map.proofs.Parts.{u16-part}
 use Rattle.model.specs.Bytes.{u16}
 use Rattle.model.specs.Framing as framing
 use Rattle.model.specs.Input.{headKind, arcKind, estimateKind, jobKind}
@@ -32,6 +32,13 @@ module _ (r : framing.Record) where
   unfolding misfits
   estimate-fits e = simp (e, or-false)
 
+  -- an arc and an estimate that fit have six bytes
+  pub arc-length : r .kind ≡ arcKind → misfits r ≡ false → bytes ≡ 6
+  arc-length e fits = eqb-true _ _ (not-false _ (sym (arc-fits e) ∙ fits))
+
+  pub estimate-length : r .kind ≡ estimateKind → misfits r ≡ false → bytes ≡ 6
+  estimate-length e fits = eqb-true _ _ (not-false _ (sym (estimate-fits e) ∙ fits))
+
   pub job-fits : r .kind ≡ jobKind → misfits r ≡ (ltb bytes 8 || not (eqb bytes (8 + 2 * u16 (r .body) 6)))
   unfolding misfits
   job-fits e = simp e
@@ -40,12 +47,8 @@ module _ (input : List ℕ) (r : Record) (forward : r .start ≤ r .end) (ends :
   abbrev len : ℕ
   len = r .end - r .start
 
-  pub body-length : length (recordIn input r .body) ≡ len
+  body-length : length (recordIn input r .body) ≡ len
   body-length = simp (length-take, length-drop) (omega arith)
-
-  -- a field of the body is a field of the input
-  pub body-u16 : (i j : ℕ) → i + 1 < len → j ≡ r .start + i → u16 (recordIn input r .body) i ≡ u16 input j
-  body-u16 i j h e = u16-take len (drop (r .start) input) i h ∙ u16-drop (r .start) input i j e
 
   pub head-misfits : r .kind ≡ headKind → not (eqb len 4) ≡ misfits (recordIn input r)
   head-misfits e = ap (λ (n : ℕ). not (eqb n 4)) (sym body-length) ∙ sym (head-fits (recordIn input r) e)
@@ -59,7 +62,7 @@ module _ (input : List ℕ) (r : Record) (forward : r .start ≤ r .end) (ends :
   goals-field : (t : Bool) → ltb len 8 ≡ t
       → (t || not (eqb len (8 + 2 * u16 input (r .start + 6)))) ≡ (t || not (eqb len (8 + 2 * u16 (recordIn input r .body) 6)))
   goals-field true e = refl
-  goals-field false e = let long : 8 ≤ len = ltb-false _ _ e in rw (body-u16 6 (r .start + 6) (omega arith) refl)
+  goals-field false e = let long : 8 ≤ len = ltb-false _ _ e in rw (u16-part input (r .start) len 6 (r .start + 6) (omega arith) refl)
 
   pub job-misfits : r .kind ≡ jobKind → (ltb len 8 || not (eqb len (8 + 2 * u16 input (r .start + 6)))) ≡ misfits (recordIn input r)
   job-misfits e =

@@ -1,5 +1,5 @@
 -- Fields of a part of a list of bytes are fields of the whole. Assumes nothing.
-use mathlib.Core.Path.{_≡_, refl, ap₂}
+use mathlib.Core.Path.{_≡_, refl, ap₂, _∙_}
 use mathlib.Core.List.{List, _∷_}
 use Prim.Native.Nat.{ℕ, zero, suc, _+_, _<_}
 use native.Mathlib.Omega.{arith}
@@ -13,7 +13,7 @@ module _ (n : ℕ) (b : List ℕ) where
   unfolding u16
   u16-drop i j e = rw (e, getD-drop n b i 0, getD-drop n b (i + 1) 0, add-assoc)
 
-  pub u16-take : (i : ℕ) → i + 1 < n → u16 (take n b) i ≡ u16 b i
+  u16-take : (i : ℕ) → i + 1 < n → u16 (take n b) i ≡ u16 b i
   unfolding u16
   u16-take i h = rw (getD-take n b i 0 (omega arith), getD-take n b (i + 1) 0 h)
 
@@ -25,3 +25,11 @@ module _ (n : ℕ) (b : List ℕ) where
   unfolding u16s
   u16s-drop zero i j e = refl
   u16s-drop (suc k) i j e = ap₂ (λ (x : ℕ) (xs : List ℕ). x ∷ xs) (u16-drop i j e) (u16s-drop k (i + 2) (j + 2) (omega arith))
+
+module _ (s : List ℕ) (start k : ℕ) where
+  pub u16-part : (i j : ℕ) → i + 1 < k → j ≡ start + i → u16 (take k (drop start s)) i ≡ u16 s j
+  u16-part i j l e = u16-take k (drop start s) i l ∙ u16-drop start s i j e
+
+  pub u32-part : (i j : ℕ) → i + 3 < k → j ≡ start + i → u32 (take k (drop start s)) i ≡ u32 s j
+  unfolding u32
+  u32-part i j l e = rw (u16-part i j (omega arith) e, u16-part (i + 2) (j + 2) (omega arith) (omega arith))

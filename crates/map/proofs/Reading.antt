@@ -12,8 +12,7 @@ use Rattle.map.specs.declared.record.Record.{Record}
 use Rattle.map.specs.declared.record.Read.{Read}
 use Rattle.map.specs.declared.record.Read.the-variants.{Whole, Broken, End}
 use Rattle.model.specs.Framing.{stop, push, frame}
-use Rattle.map.specs.Records.{readAt}
-use Rattle.map.specs.Load.{recordIn}
+use Rattle.map.specs.Records.{readAt, recordIn}
 use Rattle.map.proofs.Records.{frame-end, frame-broken, frame-whole}
 
 -- the record r at byte `at` is the first of those left, and the others begin where it ends

@@ -9,7 +9,7 @@ use lib.Dec.{eqb}
 use lib.ListN.{length}
 use Rattle.map.specs.Survey.{oneIf}
 use Rattle.model.specs.Framing.{Record}
-use Rattle.model.specs.Input.{bodyIf, bodies}
+use Rattle.model.specs.Input.{arcKind, estimateKind, bodyIf, bodies, arcOf, arcsOf, estimateOf, estimatesOf}
 use Rattle.model.specs.Lists.{any, consIf, filterMap}
 use Rattle.model.specs.Refusals.{countOf}
 
@@ -74,3 +74,21 @@ module _ (kind : ℕ) where
           → ((t && f (read (r .body))) || rest) ≡ any f (map read (consIf (cond t (some (r .body)) none) (bodies kind rs)))
       go true e = ap (λ (b : Bool). f (read (r .body)) || b) e
       go false e = e
+
+-- the first record's part in the arcs and in the estimates
+module _ (r : Record) (rs : List Record) where
+  pub arcs-arc : eqb (r .kind) arcKind ≡ true → arcsOf (r ∷ rs) ≡ arcOf (r .body) ∷ arcsOf rs
+  unfolding arcsOf
+  arcs-arc e = ap (map arcOf) (bodies-cons arcKind r rs true e)
+
+  pub arcs-other : eqb (r .kind) arcKind ≡ false → arcsOf (r ∷ rs) ≡ arcsOf rs
+  unfolding arcsOf
+  arcs-other e = ap (map arcOf) (bodies-cons arcKind r rs false e)
+
+  pub estimates-estimate : eqb (r .kind) estimateKind ≡ true → estimatesOf (r ∷ rs) ≡ estimateOf (r .body) ∷ estimatesOf rs
+  unfolding estimatesOf
+  estimates-estimate e = ap (map estimateOf) (bodies-cons estimateKind r rs true e)
+
+  pub estimates-other : eqb (r .kind) estimateKind ≡ false → estimatesOf (r ∷ rs) ≡ estimatesOf rs
+  unfolding estimatesOf
+  estimates-other e = ap (map estimateOf) (bodies-cons estimateKind r rs false e)

@@ -1,7 +1,7 @@
 -- What the reader finds at a position is how the rest of the input is framed. Assumes nothing.
-use mathlib.Core.Path.{_≡_, refl, ap, sym, _∙_}
+use mathlib.Core.Path.{_≡_, refl, _∙_}
 use mathlib.Core.Bool.{Bool, true, false, cond}
-use mathlib.Core.List.{List, [], _∷_}
+use mathlib.Core.List.{List}
 use Prim.Native.Nat.{ℕ, _+_, _-_, _≤_, _<_}
 use native.Mathlib.Omega.{arith}
 use lib.Dec.{ltb, leb, eqb}
@@ -11,38 +11,11 @@ use borrow.Author.Tests.{eqb-true, eqb-false, ltb-true, ltb-false, le-leb, lt-le
 use Rattle.map.specs.declared.record.Record.{Record}
 use Rattle.map.specs.declared.record.Read.{Read}
 use Rattle.map.specs.declared.record.Read.the-variants.{Whole, Broken, End}
-use Rattle.map.specs.Records.{readAt}
+use Rattle.map.specs.Records.{readAt, recordIn}
 use Rattle.map.proofs.Parts.{u16-drop}
 use Rattle.model.specs.Bytes.{u16}
-use Rattle.model.specs.Framing.{Framed, stop, push, frame, frameUpTo}
-use Rattle.model.specs.Framing as framing
-use Rattle.model.proofs.Framing.{frame-cons}
-
-frame-none : (b : List ℕ) → length b ≡ 0 → frame b ≡ stop false
-unfolding frame frameUpTo
-frame-none [] e = refl
-frame-none (x ∷ b) e = absurd (omega arith)
-
-frame-short : (b : List ℕ) → 0 < length b → length b < 4 → frame b ≡ stop true
-unfolding frame frameUpTo
-frame-short [] h g = absurd (omega arith)
-frame-short (x ∷ []) h g = refl
-frame-short (x ∷ y ∷ []) h g = refl
-frame-short (x ∷ y ∷ z ∷ []) h g = refl
-frame-short (x ∷ y ∷ z ∷ w ∷ b) h g = absurd (omega arith)
-
--- the first record of four bytes or more, and the rest
-frame-first : (b : List ℕ) → 4 ≤ length b
-    → frame b
-    ≡ cond (leb (u16 b 0) (length (drop 4 b)))
-    (push (record { kind = u16 b 2; body = take (u16 b 0) (drop 4 b) }) (frame (drop (u16 b 0) (drop 4 b))))
-    (stop true)
-unfolding u16
-frame-first [] h = absurd (omega arith)
-frame-first (x ∷ []) h = absurd (omega arith)
-frame-first (x ∷ y ∷ []) h = absurd (omega arith)
-frame-first (x ∷ y ∷ z ∷ []) h = absurd (omega arith)
-frame-first (x ∷ y ∷ z ∷ w ∷ b) h = frame-cons x y z w b
+use Rattle.model.specs.Framing.{stop, push, frame}
+use Rattle.model.proofs.Framing.{frame-none, frame-short, frame-first}
 
 -- by what test the reader finds what it finds
 data Finds (s : List ℕ) (at : ℕ) : Read → Type 0 where
@@ -89,10 +62,6 @@ other : {A : Type 0} → _≡_ {A = ℕ} 0 1 → A
 other e = absurd (omega arith)
 
 module _ (s : List ℕ) (at : ℕ) (inside : at ≤ length s) where
-  -- the record as the definitions have it
-  abbrev pub bodyOf : Record → framing.Record
-  bodyOf r = record { kind = r .kind; body = take (r .end - r .start) (drop (r .start) s) }
-
   pub frame-end : readAt s at ≡ End → (at ≡ length s) × (frame (drop at s) ≡ stop false)
   frame-end e = go (readAt s at) (finds s at) e
     where
@@ -115,7 +84,7 @@ module _ (s : List ℕ) (at : ℕ) (inside : at ≤ length s) where
     pub begins : r .start ≡ at + 4
     pub forward : r .start ≤ r .end
     pub ends : r .end ≤ length s
-    pub framed : frame (drop at s) ≡ push (bodyOf r) (frame (drop (r .end) s))
+    pub framed : frame (drop at s) ≡ push (recordIn s r) (frame (drop (r .end) s))
 
   whole-first : (n : ℕ) → n ≡ u16 s at → 4 ≤ length s - at → n ≤ length s - at - 4
       → IsWhole (record { kind = u16 s (at + 2); start = at + 4; end = at + 4 + n })
@@ -147,10 +116,3 @@ module _ (s : List ℕ) (at : ℕ) (inside : at ≤ length s) where
       let forward = is .forward in
       let ends = is .ends in
       omega arith
-
-  -- where no whole record is found, none is left
-  pub no-record : (f : Read) → f ≡ readAt s at → ((r : Record) → f ≡ Whole r → ⊥) → frame (drop at s) .records ≡ []
-  unfolding stop
-  no-record (Whole r) e none = absurd (none r refl)
-  no-record Broken e none = ap (λ (g : Framed). g .records) (frame-broken (sym e))
-  no-record End e none = ap (λ (g : Framed). g .records) (frame-end (sym e) .1)

@@ -11,8 +11,8 @@ use borrow.Author.Tests.{ne-eqb}
 use Rattle.map.specs.declared.record.Read.the-variants.{Whole, Broken, End}
 use Rattle.map.specs.declared.survey.Survey.{Survey}
 use Rattle.map.specs.declared.record as declared
-use Rattle.map.specs.Records.{readAt}
-use Rattle.map.specs.Survey.{recordIn, Noted, oneIf, note, nothing, notedBy, Next, Added, Walked, lastBody, Surveyed}
+use Rattle.map.specs.Records.{readAt, recordIn}
+use Rattle.map.specs.Survey.{Noted, oneIf, note, nothing, notedBy, Next, Added, Walked, lastBody, Surveyed}
 use Rattle.map.proofs.RecordKinds.{some-sets, counted}
 use Rattle.map.proofs.Records.{frame-end, frame-broken, frame-whole}
 use Rattle.model.specs.Framing.{Record, Framed, stop, push, frame}

@@ -7,7 +7,7 @@ use lib.Dec.{ltb, leb, eqb}
 use lib.ListN.{length, getD, drop, set}
 use Rattle.map.specs.declared.fields.Fields.{Fields}
 use Rattle.map.specs.declared.record as declared
-use Rattle.map.specs.Survey.{recordIn}
+use Rattle.map.specs.Records.{recordIn}
 use Rattle.model.specs.Bytes.{u16, u32}
 use Rattle.model.specs.Framing.{Record, frame}
 use Rattle.model.specs.Input.{arcKind, estimateKind, arcOf, Estimate, estimateOf, estimatesOf, placesOf, lookup}
@@ -29,10 +29,10 @@ markedBy n marks e = cond (ltb (e .place) n && eqb (getD marks (e .place) 0) 0) 
 
 -- the arc and the estimate whose bodies begin at byte `at`
 abbrev pub arcAt : List ℕ → ℕ → Arc
-arcAt input at = record { from = u16 input at; to = u16 input (at + 2); cost = u16 input (at + 4) }
+arcAt input at = record { from = u16 input (at + 0); to = u16 input (at + 2); cost = u16 input (at + 4) }
 
 abbrev pub estimateAt : List ℕ → ℕ → Estimate
-estimateAt input at = record { place = u16 input at; value = u32 input (at + 2) }
+estimateAt input at = record { place = u16 input (at + 0); value = u32 input (at + 2) }
 
 pub record Noted : Type 0 where
   pub fields : Fields
@@ -72,10 +72,8 @@ note n p r =
 abbrev pub nothing : Fields
 nothing = record { outside = false; free = false; large = false; twice = false }
 
--- the record r was found, and its kind has its length
+-- the record r is as long as its kind asks
 pub record Fitting (input : List ℕ) (n : ℕ) (r : declared.Record.Record) : Type 0 where
-  pub forward : r .start ≤ r .end
-  pub ends : r .end ≤ length input
   pub fits : misfits (recordIn input r) ≡ false
   pub few : n ≤ maxPlaces
 

@@ -15,10 +15,7 @@ use Rattle.model.specs.Terms.{SameProblem}
 use Rattle.map.specs.declared.Job.{Job}
 use Rattle.map.specs.Judge.{States}
 
--- where each region begins
-abbrev pub labelsAt : ℕ → ℕ
-labelsAt n = 0
-
+-- where each region begins; the labels begin at 0
 abbrev pub openAt : ℕ → ℕ
 openAt n = n
 

@@ -7,13 +7,10 @@ use lib.Dec.{ltb, eqb}
 use lib.ListN.{length, take, drop}
 use Rattle.map.specs.declared.survey.Survey.{Survey}
 use Rattle.map.specs.declared.record as declared
+use Rattle.map.specs.Records.{recordIn}
 use Rattle.model.specs.Framing.{Record, frame}
 use Rattle.model.specs.Input.{headKind, arcKind, jobKind}
 use Rattle.model.specs.Refusals.{countOf, unknownKind, misfits, wrongLength, beginsWith, endsWith}
-
--- a record that was found in the input
-abbrev pub recordIn : List ℕ → declared.Record.Record → Record
-recordIn input r = record { kind = r .kind; body = take (r .end - r .start) (drop (r .start) input) }
 
 pub record Noted : Type 0 where
   pub unknown : Bool

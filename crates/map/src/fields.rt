@@ -7,7 +7,7 @@ ghost use mathlib.Core.Path.{_≡_};
 ghost use Prim.Native.Nat.{_+_, _≤_};
 ghost use lib.ListN.{length};
 ghost use Rattle.map.specs.Fields.{markOf, Marked, arcAt, estimateAt, noted, withArc, withEstimate, note, Fitting, Ready, Checked};
-ghost use Rattle.map.specs.Survey.{recordIn};
+ghost use Rattle.map.specs.Records.{recordIn};
 ghost use Rattle.model.specs.Limits.{maxPlaces};
 
 // A place's mark is 0 where it has no estimate.
@@ -51,12 +51,12 @@ fn with_arc(f: Fields, input: &[u8], at: usize, places: usize) -> Fields
     requires { ⌜ at + 6 ≤ length (now input) ⌝ }
     ensures { λ r. ⌜ r ≡ withArc places f (arcAt (now (input .entry)) at) ⌝ }
 {
-    let from = area::index(area::u16_at(input, at));
-    let to = area::index(area::u16_at(input, at + 2));
+    let from = area::index(area::u16_at(input, at + record::FROM));
+    let to = area::index(area::u16_at(input, at + record::TO));
     let outside = (places <= from) | (places <= to);
     Fields {
         outside: f.outside | outside,
-        free: f.free | (area::u16_at(input, at + 4) == 0),
+        free: f.free | (area::u16_at(input, at + record::COST) == 0),
         large: f.large,
         twice: f.twice,
     }
@@ -73,8 +73,8 @@ fn with_estimate(
     requires { ⌜ (at + 6 ≤ length (now input)) × (places ≤ maxPlaces) ⌝ }
     ensures { λ r. ⌜ (noted r (now (marks .exit))) ≡ withEstimate places (noted f (now (marks .entry))) (estimateAt (now (input .entry)) at) ⌝ }
 {
-    let place = area::index(area::u16_at(input, at));
-    let value = area::u32_at(input, at + 2);
+    let place = area::index(area::u16_at(input, at + record::PLACE));
+    let value = area::u32_at(input, at + record::VALUE);
     let again = mark(marks, places, place, value);
     Fields {
         outside: f.outside | (places <= place),

@@ -9,6 +9,8 @@ mod verdict;
 
 pub use verdict::judge;
 ghost use mathlib.Core.Path.{_≡_};
+ghost use Prim.Native.Nat.{_+_, _*_, _≤_};
+ghost use Rattle.model.specs.Limits.{maxPlaces, maxArcs};
 
 // The size of a map: its places are 0 to places − 1.
 pub struct Map {
@@ -17,6 +19,7 @@ pub struct Map {
 }
 
 impl Map {
+    // The most places and arcs, the dearest arc, the highest estimate, the most goals.
     pub const PLACES: usize = 4096;
 
     pub const ARCS: usize = 16384;
@@ -32,6 +35,22 @@ impl Map {
     {
         Map { places, arcs }
     }
+
+    // The words of the work area that document 01 asks for.
+    pub fn words(self) -> usize
+        requires { ⌜ (self .places ≤ maxPlaces) × (self .arcs ≤ maxArcs) ⌝ }
+        ensures { λ r. ⌜ r ≡ 16 * self .places + 2 * self .arcs ⌝ }
+    {
+        16 * self.places + 2 * self.arcs
+    }
+
+    // The bytes of the sheet area that it asks for.
+    pub fn bytes(self) -> usize
+        requires { ⌜ self .places ≤ maxPlaces ⌝ }
+        ensures { λ r. ⌜ r ≡ 10 + 2 * self .places ⌝ }
+    {
+        10 + 2 * self.places
+    }
 }
 
 // An accepted input: the map's size, and what its job states. Its goals are `goals` numbers of 2 bytes from byte `goals_at` on.
@@ -41,6 +60,20 @@ pub struct Job {
     pub allowance: u32,
     pub goals: usize,
     pub goals_at: usize,
+}
+
+impl Job {
+    pub fn new(map: Map, start: u32, allowance: u32, goals: usize, goals_at: usize) -> Self
+        ensures { λ r. ⌜ (r .map ≡ map) × (r .start ≡ start) × (r .allowance ≡ allowance) × (r .goals ≡ goals) × (r .«goals_at» ≡ «goals_at») ⌝ }
+    {
+        Job {
+            map,
+            start,
+            allowance,
+            goals,
+            goals_at,
+        }
+    }
 }
 
 pub enum Judgement {

@@ -12,6 +12,27 @@ pub const ESTIMATE: u16 = 3;
 
 pub const JOB: u16 = 4;
 
+// Where the fields of an arc stand in its body: the place that it leaves, the place where it ends, its cost.
+pub const FROM: usize = 0;
+
+pub const TO: usize = 2;
+
+pub const COST: usize = 4;
+
+// Where the fields of an estimate stand in its body.
+pub const PLACE: usize = 0;
+
+pub const VALUE: usize = 2;
+
+// Where the fields of a job stand in its body. Its goals are 2 bytes each.
+pub const START: usize = 0;
+
+pub const ALLOWANCE: usize = 2;
+
+pub const GOAL_COUNT: usize = 6;
+
+pub const GOALS: usize = 8;
+
 // A whole record: its kind, and where its body stands. The next one begins where the body ends.
 pub struct Record {
     pub kind: u16,

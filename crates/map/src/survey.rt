@@ -7,7 +7,8 @@ ghost use mathlib.Core.Bool.{cond, not, _||_};
 ghost use Prim.Native.Nat.{_+_, _*_, _^_, _≤_, _<_};
 ghost use lib.Dec.{ltb, eqb};
 ghost use lib.ListN.{length};
-ghost use Rattle.map.specs.Survey.{recordIn, oneIf, Next, Added, Surveyed};
+ghost use Rattle.map.specs.Records.{recordIn};
+ghost use Rattle.map.specs.Survey.{oneIf, Next, Added, Surveyed};
 ghost use Rattle.model.specs.Bytes.{u16};
 ghost use Rattle.model.specs.Input.{headKind, jobKind};
 ghost use Rattle.model.specs.Refusals.{misfits};
@@ -17,8 +18,6 @@ const HEAD_BYTES: usize = 4;
 const ARC_BYTES: usize = 6;
 
 const ESTIMATE_BYTES: usize = 6;
-// A job's body before its goals, which are 2 bytes each.
-const JOB_BYTES: usize = 8;
 
 pub struct Survey {
     pub broken: bool,
@@ -45,10 +44,10 @@ fn job_misfits(input: &[u8], at: usize, len: usize) -> bool
     requires { ⌜ at + len ≤ length (now input) ⌝ }
     ensures { λ r. ⌜ r ≡ (ltb len 8 || not (eqb len (8 + 2 * u16 (now (input .entry)) (at + 6)))) ⌝ }
 {
-    if len < JOB_BYTES {
+    if len < record::GOALS {
         return true;
     }
-    len != JOB_BYTES + 2 * area::index(area::u16_at(input, at + 6))
+    len != record::GOALS + 2 * area::index(area::u16_at(input, at + record::GOAL_COUNT))
 }
 
 fn misfit(input: &[u8], r: Record) -> bool

@@ -5,6 +5,7 @@ use crate::Map;
 use crate::fields;
 use crate::fields::Fields;
 use crate::goals;
+use crate::record;
 use crate::survey;
 use crate::survey::Survey;
 ghost use mathlib.Core.Path.{_≡_};
@@ -121,10 +122,10 @@ fn room_number(map: Map, words: usize, bytes: usize) -> u32
     requires { ⌜ (map .places ≤ maxPlaces) × (map .arcs ≤ maxArcs) ⌝ }
     ensures { λ r. ⌜ r ≡ roomNumber (ltb words (16 * map .places + 2 * map .arcs)) (ltb bytes (10 + 2 * map .places)) ⌝ }
 {
-    if words < 16 * map.places + 2 * map.arcs {
+    if words < map.words() {
         return SHORT_WORK;
     }
-    if bytes < 10 + 2 * map.places {
+    if bytes < map.bytes() {
         return SHORT_SHEET;
     }
     0
@@ -142,9 +143,10 @@ fn judge_job(
     requires { ⌜ OneJob (now input) map at (now marks) ⌝ }
     ensures { λ r. ⌜ Judged (now (input .entry)) words bytes r ⌝ }
 {
-    let start = area::u16_at(input, at);
-    let count = area::index(area::u16_at(input, at + 6));
-    let g = goals::of(input, at + 8, count, map.places, marks);
+    let start = area::u16_at(input, at + record::START);
+    let count = area::index(area::u16_at(input, at + record::GOAL_COUNT));
+    let goals_at = at + record::GOALS;
+    let g = goals::of(input, goals_at, count, map.places, marks);
     let outside = (map.places <= area::index(start)) | g.outside;
     let wrong = job_number(outside, wrong_goals(count, g.falls), g.estimated);
     if wrong != 0 {
@@ -154,13 +156,8 @@ fn judge_job(
     if short != 0 {
         return Judgement::Refused(short);
     }
-    Judgement::Accepted(Job {
-        map,
-        start: area::wide16(start),
-        allowance: area::u32_at(input, at + 2),
-        goals: count,
-        goals_at: at + 8,
-    })
+    let allowance = area::u32_at(input, at + record::ALLOWANCE);
+    Judgement::Accepted(Job::new(map, area::wide16(start), allowance, count, goals_at))
 }
 
 // Judges an input whose records have a kind and its length, the first of them the one head.

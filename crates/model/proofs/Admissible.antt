@@ -25,7 +25,7 @@ use Rattle.model.proofs.Keys.{IsFirstGoal, first-goal-none, first-goal-
 use Rattle.model.proofs.Queries.{next-limit-some, ended-next, nothing-next, found-goal, over-exceeds}
 use Rattle.model.proofs.Crossing.{leaves, closed}
 use Rattle.model.proofs.Rounds.{along, asked, kept-first, kept-next, rounds-kept, low-limit}
-use Rattle.model.proofs.Total.{digits-below, theorem-T, closes-over}
+use Rattle.model.proofs.Total.{digits-below, total-bounded, closes-over}
 use Rattle.model.proofs.Routes.{route-within}
 
 -- an arc in front of a walk
@@ -218,7 +218,7 @@ module _ (p : Problem) (ok : Valid p) where
 
       pub admissible-total : (p .growth - 1) * total (trace p) ≤ p .growth * p .growth * length (within (table p c)) * (2 * binaryDigits c + 1)
       admissible-total =
-          theorem-T p ok (length (within (table p c))) (binaryDigits c) some-within-cheapest low-fits closes-below
+          total-bounded p ok (length (within (table p c))) (binaryDigits c) some-within-cheapest low-fits closes-below
         where
           low-fits : (s : Step) → List·Memᴰ s (trace p) → s .round .low < 2 ^ binaryDigits c
           low-fits s i =

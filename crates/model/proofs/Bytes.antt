@@ -1,17 +1,12 @@
--- Fields that are written are read back. Assumes nothing.
+-- Fields that are written are read back, and what is written is bytes. Assumes nothing.
 use mathlib.Core.Path.{_≡_, refl, sym, ap, ap₂, _∙_}
-use mathlib.Core.Bool.{Bool, true, false}
 use mathlib.Core.List.{List, [], _∷_, _++_, append-assoc}
 use Prim.Native.Nat.{ℕ, zero, suc, _+_, _*_, _/_, _%_, _^_, _≤_, _<_}
 use native.Mathlib.Numerals.{add-one}
 use native.Mathlib.Omega.{arith}
-use lib.ListN.{length, getD, take, drop, length-append, length-drop}
-use lib.Seq.{getD-drop, getD-append-seam, getD-append-add, drop-cons, take-all, take-length, drop-length, take-add, drop-drop}
-use lib.Dec.{leb}
-use borrow.Author.Tests.{le-leb, leb-true}
+use lib.ListN.{length, getD, take, drop, length-append}
+use lib.Seq.{getD-drop, getD-append-seam, getD-append-add, drop-cons, take-add, drop-drop}
 use Rattle.model.specs.Bytes.{Bytes, u16, u32, u16s, put16, put32, put16s}
-use Rattle.model.specs.Framing.{Record, Framed, stop, push, frame, frameUpTo, putRecord}
-use Rattle.model.proofs.Framing.{frameUpTo-step}
 
 pub take-bytes : (n : ℕ) (b : List ℕ) → Bytes b → Bytes (take n b)
 take-bytes zero b B i = omega arith
@@ -38,7 +33,7 @@ u16s-length zero b i = refl
 u16s-length (suc n) b i = ap suc (u16s-length n b (i + 2))
 
 -- a number of two bytes, or of two fields, is written as these
-put16-bytes : (x y : ℕ) → x < 256 → y < 256 → put16 (x + 256 * y) ≡ x ∷ y ∷ []
+pub put16-bytes : (x y : ℕ) → x < 256 → y < 256 → put16 (x + 256 * y) ≡ x ∷ y ∷ []
 unfolding put16
 put16-bytes x y h k = ap₂ (λ (a b : ℕ). a ∷ b ∷ []) (omega arith) (omega arith)
 
@@ -106,73 +101,35 @@ put16s-u16s (suc n) b i h l =
     let more : 2 * suc n ≡ 2 + 2 * n = omega arith in
     rw (low, rest, more, ← drop-drop 2 i b) (sym (take-add 2 (2 * n) (drop i b)))
 
-frameUpTo-end : (k : ℕ) → frameUpTo k [] ≡ stop false
-unfolding frameUpTo
-frameUpTo-end zero = refl
-frameUpTo-end (suc k) = refl
+-- a number that two bytes hold is read back from them
+pub two-bytes : (n : ℕ) → n < 65536 → n % 256 + 256 * (n / 256 % 256) ≡ n
+two-bytes n h = omega arith
 
--- where no more is framed, nothing is left
-frameUpTo-none : (k : ℕ) (b : List ℕ) → frameUpTo (suc k) b ≡ record { records = []; broken = false } → b ≡ []
-unfolding frameUpTo stop push
-frameUpTo-none k [] e = refl
-frameUpTo-none k (a ∷ []) e = let no-end : true ≡ false = ap (λ f. f .broken) e in cc
-frameUpTo-none k (a ∷ b ∷ []) e = let no-end : true ≡ false = ap (λ f. f .broken) e in cc
-frameUpTo-none k (a ∷ b ∷ c ∷ []) e = let no-end : true ≡ false = ap (λ f. f .broken) e in cc
-frameUpTo-none k (a ∷ b ∷ c ∷ d ∷ rest) e = go (leb (a + 256 * b) (length rest)) refl
-  where
-    go : (t : Bool) → leb (a + 256 * b) (length rest) ≡ t → _≡_ {A = List ℕ} (a ∷ b ∷ c ∷ d ∷ rest) []
-    go true u = let no-record : _≡_ {A = List Record} (_ ∷ _) [] = ap (λ f. f .records) (rw u at e) in cc
-    go false u = let no-end : true ≡ false = ap (λ f. f .broken) (rw u at e) in cc
+-- ---- What is written is bytes
 
--- a record's bytes are framed as that one record; and bytes that are framed as one whole record are its bytes
-pub frame-putRecord : (kind : ℕ) (body : List ℕ) → kind < 65536 → length body < 65536
-    → frame (putRecord kind body) ≡ record { records = record { kind = kind; body = body } ∷ []; broken = false }
-unfolding put16 putRecord frame stop push
-frame-putRecord kind body k l =
-    let size : length body % 256 + 256 * (length body / 256 % 256) ≡ length body = omega arith in
-    let same : kind % 256 + 256 * (kind / 256 % 256) ≡ kind = omega arith in
-    let fits : leb (length body) (length body) ≡ true = le-leb (length body) (length body) (omega arith) in
-    rw (frameUpTo-step, size, same, take-length, drop-length, fits, frameUpTo-end)
+pub append-bytes : (xs ys : List ℕ) → Bytes xs → Bytes ys → Bytes (xs ++ ys)
+append-bytes [] ys B C i = C i
+append-bytes (x ∷ xs) ys B C zero = B 0
+append-bytes (x ∷ xs) ys B C (suc i) = append-bytes xs ys (λ j. B (suc j)) C i
 
--- one whole record and nothing more
-abbrev pub alone : Record → Framed
-alone r = record { records = r ∷ []; broken = false }
+pub no-bytes : Bytes []
+no-bytes i = omega arith
 
--- a record put in front of others is alone only if nothing follows
-push-alone : (x r : Record) (f : Framed) → push x f ≡ alone r → (x ≡ r) × (f ≡ record { records = []; broken = false })
-unfolding push
-push-alone x r f e =
-    let one : x ∷ f .records ≡ r ∷ [] = ap (λ g. g .records) e in
-    let none : f .records ≡ [] = cc in
-    let whole : f .broken ≡ false = ap (λ g. g .broken) e in
-    (cc, λ i. record { records = none i; broken = whole i })
+pub put16-is-bytes : (n : ℕ) → Bytes (put16 n)
+unfolding put16
+put16-is-bytes n zero = omega arith
+put16-is-bytes n (suc zero) = omega arith
+put16-is-bytes n (suc (suc i)) = omega arith
 
--- four bytes and a body of as many bytes as the first two say are a record
-putRecord-parts : (a b c d : ℕ) (body : List ℕ) → Bytes (a ∷ b ∷ c ∷ d ∷ body) → length body ≡ a + 256 * b
-    → a ∷ b ∷ c ∷ d ∷ body ≡ putRecord (c + 256 * d) body
-unfolding putRecord
-putRecord-parts a b c d body h l = rw (l, put16-bytes a b (h 0) (h 1), put16-bytes c d (h 2) (h 3))
+pub put32-is-bytes : (n : ℕ) → Bytes (put32 n)
+unfolding put32
+put32-is-bytes n zero = omega arith
+put32-is-bytes n (suc zero) = omega arith
+put32-is-bytes n (suc (suc zero)) = omega arith
+put32-is-bytes n (suc (suc (suc zero))) = omega arith
+put32-is-bytes n (suc (suc (suc (suc i)))) = omega arith
 
-pub putRecord-frame : (b : List ℕ) (r : Record) → Bytes b → frame b ≡ record { records = r ∷ []; broken = false } → b ≡ putRecord (r .kind) (r .body)
-unfolding frame frameUpTo stop
-putRecord-frame [] r h e = let no-record : [] ≡ r ∷ [] = ap (λ f. f .records) e in cc
-putRecord-frame (a ∷ []) r h e = let no-end : true ≡ false = ap (λ f. f .broken) e in cc
-putRecord-frame (a ∷ b ∷ []) r h e = let no-end : true ≡ false = ap (λ f. f .broken) e in cc
-putRecord-frame (a ∷ b ∷ c ∷ []) r h e = let no-end : true ≡ false = ap (λ f. f .broken) e in cc
-putRecord-frame (a ∷ b ∷ c ∷ d ∷ rest) r h e = go (leb n (length rest)) refl
-  where
-    n : ℕ
-    n = a + 256 * b
-
-    x : Record
-    x = record { kind = c + 256 * d; body = take n rest }
-
-    go : (t : Bool) → leb n (length rest) ≡ t → a ∷ b ∷ c ∷ d ∷ rest ≡ putRecord (r .kind) (r .body)
-    go true u =
-        let k : ℕ = suc (suc (length rest)) in
-        let only = push-alone x r (frameUpTo (suc k) (drop n rest)) (rw u at e) in
-        let fits : n ≤ length rest = leb-true n (length rest) u in
-        let left : length rest ≤ n = omega (arith, length-drop n rest, ap length (frameUpTo-none k (drop n rest) (only .1))) in
-        let all : take n rest ≡ rest = take-all n rest left in
-        rw (← only .0, all) (putRecord-parts a b c d rest h (omega arith))
-    go false u = let no-end : true ≡ false = ap (λ f. f .broken) (rw u at e) in cc
+pub put16s-is-bytes : (ns : List ℕ) → Bytes (put16s ns)
+unfolding put16s
+put16s-is-bytes [] = no-bytes
+put16s-is-bytes (n ∷ ns) = append-bytes (put16 n) (put16s ns) (put16-is-bytes n) (put16s-is-bytes ns)

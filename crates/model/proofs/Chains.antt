@@ -11,7 +11,7 @@ use Rattle.model.specs.Problem.{Problem, Arc, Valid}
 use Rattle.model.specs.Paths.{stay, on, places, PathTo, GoalReachable, Route, Admissible}
 use Rattle.model.specs.Jobs.{shares, putChain, putArc}
 use Rattle.model.proofs.Indices.{Different}
-use Rattle.model.proofs.Sheets.{Possible}
+use Rattle.model.proofs.Sheets.{Possible, one-place}
 use Rattle.model.proofs.PlainJobs.{plain, putArcs}
 
 -- ---- Lists by their indices
@@ -237,11 +237,7 @@ module _ (cost : ℕ) (xs : List ℕ) (h : Possible cost xs) where
 
 module _ (start goal : ℕ) where
   pub alone-valid : start < maxPlaces → goal < maxPlaces → Valid (line (start ∷ []) [] goal)
-  alone-valid h k = line-valid (start ∷ []) [] goal refl below (λ i l. absurd (omega arith)) k
-    where
-      below : (i : ℕ) → i < 1 → getD (start ∷ []) i 0 < maxPlaces
-      below zero l = h
-      below (suc i) l = absurd (omega arith)
+  alone-valid h k = line-valid (start ∷ []) [] goal refl (one-place start h .place-below) (λ i l. absurd (omega arith)) k
 
   -- no place but the start is reached
   pub alone-unreachable : (goal ≡ start → ⊥) → GoalReachable (line (start ∷ []) [] goal) → ⊥

@@ -18,7 +18,7 @@ use Rattle.model.specs.Costs.{Table, costAt, table}
 use Rattle.model.specs.Query.{Key, within, nextLimit}
 use Rattle.model.specs.Terms.{AtMost, IsWithin, Inside}
 use Rattle.model.proofs.Lists.{none-some, filter-fewer, filter-shorter}
-use Rattle.model.proofs.Keys.{key-entry, within-shorter}
+use Rattle.model.proofs.Keys.{key, key-entry, within-shorter}
 use Rattle.model.proofs.LeastCosts.{Via, start-below, end-below, table-length, entry-path, start-within, arc-entry, entry-via, larger-limit, inside-not-cheaper, same-entries}
 use Rattle.model.proofs.Queries.{Crosses, IsNextLimit, next-limit-some, next-limit-none}
 
@@ -38,9 +38,6 @@ same-entry (some d) (some e) f g =
     let same : d ≡ e = omega arith in
     rw same
 
-abbrev keyAt : ℕ → ℕ → Key
-keyAt d v = record { cost = d; place = v }
-
 -- the keys of the places within whose cost is below d
 abbrev pub cheaper : Table → ℕ → List Key
 cheaper t d = filter (λ (k : Key). ltb (k .cost) d) (within t)
@@ -51,11 +48,11 @@ module _ (t : Table) where
   cheaper-fewer d e v i h =
       filter-fewer (λ (k : Key). ltb (k .cost) d) (λ (k : Key). ltb (k .cost) e)
       (λ k below. lt-ltb _ e (omega (arith, ltb-true (k .cost) d below)))
-      (within t) (keyAt d v) (key-entry t (keyAt d v) .1 i) (le-ltb d d (le-refl d)) (lt-ltb d e h)
+      (within t) (key d v) (key-entry t (key d v) .1 i) (le-ltb d d (le-refl d)) (lt-ltb d e h)
 
   pub cheaper-shorter : (d v : ℕ) → costAt t v ≡ some d → length (cheaper t d) < length (within t)
   cheaper-shorter d v i =
-      filter-shorter (λ (k : Key). ltb (k .cost) d) (within t) (keyAt d v) (key-entry t (keyAt d v) .1 i) (le-ltb d d (le-refl d))
+      filter-shorter (λ (k : Key). ltb (k .cost) d) (within t) (key d v) (key-entry t (key d v) .1 i) (le-ltb d d (le-refl d))
 
 module _ (p : Problem) (ok : Valid p) where
   -- an arc by which a path within E leaves the places within C: D, its cost and the estimate at its end are together at most E

@@ -1,4 +1,5 @@
--- The demands on the R3, of the definition `route` that every public promise cites, for every input and every lent area.
+-- The demands on the R3, of the definitions that the public promises cite (`route` for the call, `readSheet` for a read), for every input and
+-- every lent area.
 -- Each demand is a record of statements; its proof stands right under it. Assumes nothing.
 use mathlib.Core.Path.{_≡_, sym, ap, _∙_}
 use mathlib.Core.Logic.{_↔_, _⊎_, inl, inr}
@@ -16,15 +17,16 @@ use Rattle.model.specs.Refusals.{Row, rows}
 use Rattle.model.specs.Costs.{table}
 use Rattle.model.specs.Query.{within}
 use Rattle.model.specs.Rounds.{trace, total}
-use Rattle.model.specs.Sheets.{routeSheet, noRouteSheet, reading, readSheet}
+use Rattle.model.specs.Sheets.{routeSheet, noRouteSheet, reading, refusedRead, readSheet}
 use Rattle.model.specs.Answer.{answer}
-use Rattle.model.specs.Calls.{Call, result, problem, allowance, written, IsAccepted}
+use Rattle.model.specs.Calls.{Call, result, problem, allowance, written, IsAccepted, IsWritten}
 use Rattle.model.specs.Jobs.{routeJob, noRouteJob}
 use Rattle.model.proofs.Admissible.{admissible-total-2}
+use Rattle.model.proofs.Sheets.{refused-otherwise}
 use Rattle.model.proofs.Promises.{row-refuses, no-row-accepts, problem-growth, ends, valid, ends-number}
 use Rattle.model.proofs.Promises.{spent-by-number, none-by-number, route-by-number}
-use Rattle.model.proofs.Promises.{spent-if-exceeded, none-if-unreachable, route-if-reachable, expansions-at-most}
-use Rattle.model.proofs.Realized.{IsWritten, accepted-route-written, accepted-no-route-written}
+use Rattle.model.proofs.Promises.{spent-if-exceeded, none-if-unreachable, route-if-reachable, unspent-expansions, expansions-at-most}
+use Rattle.model.proofs.Realized.{accepted-route-written, accepted-no-route-written}
 use Rattle.model.proofs.Promises.{Says, sheet-says, first-sheet, none-sheet, equal-routes, equal-starts, never-equal}
 
 -- Demand 1: if the map, the job or the lent memory breaks a rule, the call ends with the number that document 01 gives, and every lent
@@ -69,6 +71,9 @@ pub record Demand2 (c : Call) : Type 0 where
   -- 'allowance spent' exactly where the search needs more, and never with 236 for each place
   pub spent : (result c .answer .number ≡ 16) ↔ (allowance c < total (trace (problem c)))
   pub never-spent : 236 * problem c .places ≤ allowance c → result c .answer .number ≡ 16 → ⊥
+  -- expansions is the sum of what the queries cost, and the allowance where that is spent
+  pub expansions : (result c .answer .number ≡ 16 → ⊥) → result c .answer .expansions ≡ total (trace (problem c))
+  pub spent-expansions : result c .answer .number ≡ 16 → result c .answer .expansions ≡ allowance c
   -- the sheet is read back as it was written
   pub route-read-back : result c .answer .number ≡ 0
       → (r : List ℕ) × (written c ≡ routeSheet (result c .answer .cost) r) × (readSheet (written c) ≡ reading 0 (result c .answer .cost) r)
@@ -88,21 +93,25 @@ demand-2 c A =
       no-route-sheet = λ n. none-by-number e n .on-sheet;
       spent = (λ n. spent-by-number e n .exceeds, λ h. spent-if-exceeded e h .number);
       never-spent = λ ample n. let s = spent-by-number e n in omega arith;
+      expansions = unspent-expansions e;
+      spent-expansions = λ n. spent-by-number e n .expansions;
       route-read-back = λ n. let f = route-by-number e n in (f .places, f .on-sheet, f .read-back);
       no-route-read-back = λ n. none-by-number e n .read-back;
       within-limit = λ n. let f = route-by-number e n in record { places = f .places; first = f .first-within; on-sheet = f .on-sheet };
     }
 
--- and the display accepts only bytes that some job could produce: each is the sheet of this job, which is accepted
+-- Demand 2, of the display: it accepts, as 0 or 17, only bytes that some job could produce. Each is the sheet of this job, which is accepted.
 pub record DemandSheets (b : List ℕ) : Type 0 where
   pub route : readSheet b .number ≡ 0 → (r : List ℕ) × IsWritten (routeJob (readSheet b .cost) r) b
   pub no-route : readSheet b .number ≡ 17 → (start : ℕ) × IsWritten (noRouteJob start) b
+  -- every other read is refused, with 18 or 19 and zeros
+  pub refused : (readSheet b .number ≡ 0 → ⊥) → (readSheet b .number ≡ 17 → ⊥) → (n : ℕ) × (readSheet b ≡ refusedRead n) × (18 ≤ n) × (n ≤ 19)
 
 pub demand-sheets : (b : List ℕ) → Bytes b → DemandSheets b
-demand-sheets b B = record { route = accepted-route-written b B; no-route = accepted-no-route-written b B }
+demand-sheets b B = record { route = accepted-route-written b B; no-route = accepted-no-route-written b B; refused = refused-otherwise b }
 
--- the premises of demand 3
-pub record Surveyed (c : Call) : Type 0 where
+-- what demand 3 asks of each of two jobs whose sheets are compared
+pub record Comparable (c : Call) : Type 0 where
   pub accepted : IsAccepted c
   pub admissible : Admissible (problem c)
   pub ample : 236 * problem c .places ≤ allowance c
@@ -123,8 +132,9 @@ pub record SameNoRoute (c d : Call) : Type 0 where
 -- Demand 3, undivided.
 pub record Demand3 : Type 0 where
   -- any two sheets are equal byte for byte exactly when both jobs have the same first cheapest route, or the same start and no route
-  pub equal-sheets : (c d : Call) → Surveyed c → Surveyed d → (written c ≡ written d) ↔ (SameFirstRoute c d ⊎ SameNoRoute c d)
-  -- for each job with a route and no estimate that overstates, whatever its allowance: the bound on the expansions carried in the answer
+  pub equal-sheets : (c d : Call) → Comparable c → Comparable d → (written c ≡ written d) ↔ (SameFirstRoute c d ⊎ SameNoRoute c d)
+  -- for each job with a route and no estimate that overstates, whatever its allowance: the bound on the expansions carried in the answer, with n
+  -- the places within the cheapest cost k and d its binary digits
   pub expansions : (c : Call) → IsAccepted c → Admissible (problem c) → (k : ℕ) → Cheapest (problem c) k
       → result c .answer .expansions ≤ 4 * length (within (table (problem c) k)) * (2 * binaryDigits k + 1)
 
@@ -136,7 +146,7 @@ demand-3 = record {
       le-trans (expansions-at-most (ends c A)) bound;
 }
   where
-    says : (c : Call) → Surveyed c → Says (problem c) (written c)
+    says : (c : Call) → Comparable c → Says (problem c) (written c)
     says c C = sheet-says (ends c (C .accepted)) (C .ample) (C .admissible)
 
     equal-then-same : (c d : Call) → Says (problem c) (written c) → Says (problem d) (written d) → written c ≡ written d
@@ -146,7 +156,7 @@ demand-3 = record {
     equal-then-same c d (inr x) (inl y) e = absurd (never-equal (sym e) y x)
     equal-then-same c d (inr x) (inr y) e = inr (record { start = equal-starts e x y; first = x .unreachable; second = y .unreachable })
 
-    same-then-equal : (c d : Call) → Surveyed c → Surveyed d → SameFirstRoute c d ⊎ SameNoRoute c d → written c ≡ written d
+    same-then-equal : (c d : Call) → Comparable c → Comparable d → SameFirstRoute c d ⊎ SameNoRoute c d → written c ≡ written d
     same-then-equal c d C D (inl s) =
         first-sheet (valid c (C .accepted)) (says c C) (s .first) ∙ sym (first-sheet (valid d (D .accepted)) (says d D) (s .second))
     same-then-equal c d C D (inr n) =

@@ -41,3 +41,9 @@ different-repeats [] h = refl
 different-repeats (x ∷ xs) h =
     let new : any (eqb x) xs ≡ false = nowhere-any (eqb x) xs (λ i l. ne-eqb x (getD xs i 0) (h 0 (suc i) (omega arith) (omega arith))) in
     rw new (different-repeats xs (λ i j l m. h (suc i) (suc j) (omega arith) (omega arith)))
+
+-- an element that is there is the same under any default
+pub getD-default : (xs : List ℕ) (i d e : ℕ) → i < length xs → getD xs i d ≡ getD xs i e
+getD-default [] i d e h = absurd (omega arith)
+getD-default (x ∷ xs) zero d e h = refl
+getD-default (x ∷ xs) (suc i) d e h = getD-default xs i d e (omega arith)

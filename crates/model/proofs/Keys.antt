@@ -26,7 +26,7 @@ pub record IsFirstGoal (p : Problem) (t : Table) (g : Key) : Type 0 where
   pub cheapest : (h d : ℕ) → IsGoal p h → costAt t h ≡ some d → g .cost ≤ d
   pub lowest : (h : ℕ) → IsGoal p h → costAt t h ≡ some (g .cost) → g .place ≤ h
 
-abbrev key : ℕ → ℕ → Key
+abbrev pub key : ℕ → ℕ → Key
 key d v = record { cost = d; place = v }
 
 -- Key j does not come before k: it costs more, or the same and its place's number is no lower.

@@ -131,19 +131,21 @@ module _ (p : Problem) (ok : Valid p) where
   pub trace-length : length (trace p) ≤ 59 * p .places
   trace-length = Traces.trace-length p ok
 
-  pub budget-below : (s : Step) → List·Memᴰ s (trace p) → s .round .budget ≤ p .growth * p .places
-  budget-below s i = Traces.budget-below p ok s i
+  -- No budget exceeds q × N.
+  pub budget-at-most : (s : Step) → List·Memᴰ s (trace p) → s .round .budget ≤ p .growth * p .places
+  budget-at-most s i = Traces.budget-at-most p ok s i
 
+  -- Low never falls from one query to the next.
   pub low-never-falls : LowNeverFalls (trace p)
   low-never-falls = Rounds.low-never-falls p ok
 
-  -- ---- Theorem T and its uses
+  -- ---- The bound on the total
 
   -- If low stays below 2^d and no round with b ≥ n closes, the total is bounded.
-  pub theorem-T : (n d : ℕ) → 1 ≤ n → ((s : Step) → List·Memᴰ s (trace p) → s .round .low < 2 ^ d)
+  pub total-bounded : (n d : ℕ) → 1 ≤ n → ((s : Step) → List·Memᴰ s (trace p) → s .round .low < 2 ^ d)
       → ((s : Step) → List·Memᴰ s (trace p) → Closes p s → s .round .budget < n)
       → (p .growth - 1) * total (trace p) ≤ p .growth * p .growth * n * (2 * d + 1)
-  theorem-T n d h l c = Total.theorem-T p ok n d h l c
+  total-bounded n d h l c = Total.total-bounded p ok n d h l c
 
   -- Where nothing overstates and there is a route, n counts the places within the cheapest cost, and d its binary digits.
   pub admissible-total : (c : ℕ) → Admissible p → Cheapest p c
@@ -153,6 +155,7 @@ module _ (p : Problem) (ok : Valid p) where
   pub admissible-total-2 : (c : ℕ) → p .growth ≡ 2 → Admissible p → Cheapest p c → total (trace p) ≤ 4 * length (within (table p c)) * (2 * binaryDigits c + 1)
   admissible-total-2 c q A k = Admissible.admissible-total-2 p ok A c k q
 
+  -- At least the start is within the cheapest cost.
   pub some-within-cheapest : (c : ℕ) → Admissible p → Cheapest p c → 1 ≤ length (within (table p c))
   some-within-cheapest c A k = Admissible.some-within-cheapest p ok A c k
 

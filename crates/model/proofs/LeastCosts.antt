@@ -47,7 +47,7 @@ entry-in [] v d e = none-some e
 entry-in (x ∷ t) zero d e = omega arith
 entry-in (x ∷ t) (suc v) d e = omega (arith, entry-in t v d e)
 
-entry-below : {o : Option ℕ} {x d : ℕ} → o ≡ some x → AtMost o d → x ≤ d
+pub entry-below : {o : Option ℕ} {x d : ℕ} → o ≡ some x → AtMost o d → x ≤ d
 entry-below {o} {x} e m = let same : m .cost ≡ x = cc in omega arith
 
 -- an entry of at most d that is at least d is d

@@ -1,8 +1,9 @@
 pub mod Compute
 pub mod Runs
 pub mod Lists
-pub mod Framing
 pub mod Bytes
+pub mod Framing
+pub mod Records
 pub mod Indices
 pub mod Acceptance
 pub mod Relaxing
@@ -22,7 +23,6 @@ pub mod Same
 pub mod Endings
 pub mod Promises
 pub mod Laws
-pub mod Records
 pub mod PlainJobs
 pub mod PlainAccepted
 pub mod Chains

@@ -126,7 +126,7 @@ module _ {A : Type 0} (f g : A → Bool) (implies : (x : A) → f x ≡ true →
       let rest = filter-fewer ys x i e h in
       omega (arith, cond-longer 1 (f y) (g y) (implies y) y (filter f ys) (filter g ys) (omega arith))
 
-filter-all : {A : Type 0} (xs : List A) → filter (λ (x : A). true) xs ≡ xs
+pub filter-all : {A : Type 0} (xs : List A) → filter (λ (x : A). true) xs ≡ xs
 unfolding filter
 filter-all [] = refl
 filter-all (x ∷ xs) = rw (filter-all xs)

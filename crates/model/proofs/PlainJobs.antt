@@ -32,18 +32,8 @@ use Rattle.model.specs.Input.{
 }
 use Rattle.model.specs.Jobs.{putHead, putArc, putJob, ample}
 use Rattle.model.specs.Refusals.{countOf}
-use Rattle.model.proofs.Records.{
-  two-bytes,
-  append-bytes,
-  put16-is-bytes,
-  put32-is-bytes,
-  put16s-is-bytes,
-  putRecords,
-  Fits,
-  AllFit,
-  putRecords-is-bytes,
-  frame-records,
-}
+use Rattle.model.proofs.Bytes.{two-bytes, append-bytes, put16-is-bytes, put32-is-bytes, put16s-is-bytes}
+use Rattle.model.proofs.Records.{putRecords, Fits, AllFit, putRecords-is-bytes, frame-records}
 
 -- ---- The problem and its job
 

@@ -159,6 +159,11 @@ module _ {p : Problem} {a : ℕ} {r : Result} where
   route-if-reachable (none-ends n) lasts h = absurd (n .unreachable h)
   route-if-reachable (route-ends f) lasts h = f
 
+  pub unspent-expansions : Ends p a r → (r .answer .number ≡ 16 → ⊥) → r .answer .expansions ≡ total (trace p)
+  unspent-expansions (spent-ends s) unspent = absurd (unspent (s .number))
+  unspent-expansions (none-ends n) unspent = n .expansions
+  unspent-expansions (route-ends f) unspent = f .expansions
+
   pub expansions-at-most : Ends p a r → r .answer .expansions ≤ total (trace p)
   expansions-at-most (spent-ends s) = omega arith
   expansions-at-most (none-ends n) = omega arith

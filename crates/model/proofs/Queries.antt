@@ -1,6 +1,5 @@
 -- What a query's outcome says of the table of its limit. Assumes nothing.
 use mathlib.Core.Path.{_≡_, refl, sym}
-use mathlib.Core.Logic.{_⊎_, inl, inr}
 use mathlib.Core.Bool.{Bool, true, false}
 use mathlib.Core.List.{List, List·Memᴰ}
 use mathlib.Core.Option.{Option, none, some, Option·some-injective}
@@ -112,16 +111,3 @@ module _ (p : Problem) where
     pub cost-at-most-budget : query p C b .cost ≤ b
     unfolding query queryOn
     cost-at-most-budget = judge-cost (ltb b queryLength) b queryLength (notOver (firstGoal p (table p C)) (nextLimit p (table p C))) refl
-
-    -- with a goal within, a query that is not over has found it
-    pub goal-outcome : (g : Key) → firstGoal p (table p C) ≡ some g → (query p C b .outcome ≡ over) ⊎ (query p C b .outcome ≡ found)
-    unfolding query queryOn judge notOver
-    goal-outcome g e = go (ltb b queryLength) (firstGoal p (table p C)) e
-      where
-        result : Bool → Option Key → Outcome
-        result exceeds goal = judge exceeds b queryLength (notOver goal (nextLimit p (table p C))) .outcome
-
-        go : (exceeds : Bool) (goal : Option Key) → goal ≡ some g → (result exceeds goal ≡ over) ⊎ (result exceeds goal ≡ found)
-        go true goal q = inl refl
-        go false none q = none-some q
-        go false (some k) q = inr refl

@@ -18,7 +18,7 @@ use Rattle.model.specs.Sheets.{routeSheet, noRouteSheet, readSheet}
 use Rattle.model.specs.Jobs.{routeJob, noRouteJob, ample, putHead}
 use Rattle.model.proofs.Sheets.{Possible, accepted-route, accepted-no-route}
 use Rattle.model.proofs.Laws.{total-at-most-2}
-use Rattle.model.specs.Calls.{Call, IsAccepted, written, result, problem, allowance}
+use Rattle.model.specs.Calls.{Call, IsAccepted, written, result, problem, allowance, IsWritten}
 use Rattle.model.proofs.Promises.{FindsRoute, ends, route-if-reachable, none-if-unreachable, spent-by-number}
 use Rattle.model.proofs.PlainJobs.{plain, putArcs, plainJob, plain-bytes, plain-framed, plain-states, plain-problem}
 use Rattle.model.proofs.PlainAccepted.{plain-accepted}
@@ -44,13 +44,6 @@ use Rattle.model.proofs.Chains.{
 pub callOn : (input : List ℕ) → Bytes input → (arcs : ℕ) → Call
 callOn input b arcs =
     record { input = input; work = replicate (16 * maxPlaces + 2 * arcs) 0; sheet = replicate (10 + 2 * maxPlaces) 0; bytes = b }
-
--- the bytes b are the sheet that an accepted call writes for this job
-pub record IsWritten (job b : List ℕ) : Type 0 where
-  pub call : Call
-  pub is-job : call .input ≡ job
-  pub accepted : IsAccepted call
-  pub on-sheet : written call ≡ b
 
 -- A job of a plain problem, called on with just enough.
 module _ (input : List ℕ) (arcs : List Arc) (start goal : ℕ) (is : input ≡ plainJob arcs start goal)

@@ -1,49 +1,17 @@
--- Records written one after another are framed as those records. Assumes nothing.
-use mathlib.Core.Path.{_≡_, refl, ap, _∙_}
-use mathlib.Core.Bool.{true, false}
-use mathlib.Core.List.{List, [], _∷_, _++_, List·Memᴰ, List·Memᴰ·head, List·Memᴰ·tail}
-use Prim.Native.Nat.{ℕ, zero, suc, _+_, _*_, _/_, _%_, _≤_, _<_}
+-- Records written one after another are framed as those records, and one record alone is read back as its bytes. Assumes nothing.
+use mathlib.Core.Path.{_≡_, refl, sym, ap, _∙_}
+use mathlib.Core.Bool.{Bool, true, false}
+use mathlib.Core.List.{List, [], _∷_, _++_, append-nil, List·Memᴰ, List·Memᴰ·head, List·Memᴰ·tail}
+use Prim.Native.Nat.{ℕ, _+_, _*_, _≤_, _<_}
 use native.Mathlib.Omega.{arith}
-use lib.ListN.{length, length-append}
-use lib.Seq.{take-append-seam, drop-append-seam}
+use lib.ListN.{length, take, drop, length-drop}
+use lib.Seq.{take-all}
 use lib.Dec.{leb}
-use borrow.Author.Tests.{le-leb}
-use Rattle.model.specs.Bytes.{Bytes, put16, put32, put16s}
+use borrow.Author.Tests.{leb-true}
+use Rattle.model.specs.Bytes.{Bytes, put16}
 use Rattle.model.specs.Framing.{Record, Framed, stop, push, frame, frameUpTo, putRecord}
-use Rattle.model.proofs.Framing.{frameUpTo-step}
-
--- a number that two bytes hold is read back from them
-pub two-bytes : (n : ℕ) → n < 65536 → n % 256 + 256 * (n / 256 % 256) ≡ n
-two-bytes n h = omega arith
-
--- ---- What is written is bytes
-
-pub append-bytes : (xs ys : List ℕ) → Bytes xs → Bytes ys → Bytes (xs ++ ys)
-append-bytes [] ys B C i = C i
-append-bytes (x ∷ xs) ys B C zero = B 0
-append-bytes (x ∷ xs) ys B C (suc i) = append-bytes xs ys (λ j. B (suc j)) C i
-
-no-bytes : Bytes []
-no-bytes i = omega arith
-
-pub put16-is-bytes : (n : ℕ) → Bytes (put16 n)
-unfolding put16
-put16-is-bytes n zero = omega arith
-put16-is-bytes n (suc zero) = omega arith
-put16-is-bytes n (suc (suc i)) = omega arith
-
-pub put32-is-bytes : (n : ℕ) → Bytes (put32 n)
-unfolding put32
-put32-is-bytes n zero = omega arith
-put32-is-bytes n (suc zero) = omega arith
-put32-is-bytes n (suc (suc zero)) = omega arith
-put32-is-bytes n (suc (suc (suc zero))) = omega arith
-put32-is-bytes n (suc (suc (suc (suc i)))) = omega arith
-
-pub put16s-is-bytes : (ns : List ℕ) → Bytes (put16s ns)
-unfolding put16s
-put16s-is-bytes [] = no-bytes
-put16s-is-bytes (n ∷ ns) = append-bytes (put16 n) (put16s ns) (put16-is-bytes n) (put16s-is-bytes ns)
+use Rattle.model.proofs.Bytes.{no-bytes, append-bytes, put16-bytes, put16-is-bytes}
+use Rattle.model.proofs.Framing.{frame-cons, frame-none, frame-put}
 
 -- ---- Records, one after another
 
@@ -70,29 +38,74 @@ putRecords-is-bytes (r ∷ rs) fit =
     let one : Bytes (n ++ k ++ r .body) = append-bytes (n ++ k) (r .body) front (fit r (List·Memᴰ·head refl) .bytes) in
     append-bytes (n ++ k ++ r .body) (putRecords rs) one (putRecords-is-bytes rs (λ s i. fit s (List·Memᴰ·tail i)))
 
--- the bytes of a record are framed as it, and then the rest
-frame-first : (k kind : ℕ) (body rest : List ℕ) → kind < 65536 → length body < 65536
-    → frameUpTo (suc k) (putRecord kind body ++ rest) ≡ push (record { kind = kind; body = body }) (frameUpTo k rest)
-unfolding put16 putRecord
-frame-first k kind body rest h l =
-    let fits : leb (length body) (length (body ++ rest)) ≡ true
-    = le-leb (length body) (length (body ++ rest)) (omega (arith, length-append body rest)) in
-    rw (frameUpTo-step, two-bytes (length body) l, two-bytes kind h, fits, take-append-seam body rest, drop-append-seam body rest)
-
-whole : List Record → Framed
-whole rs = record { records = rs; broken = false }
-
-frameUpTo-records : (rs : List Record) → AllFit rs → (k : ℕ) → length (putRecords rs) ≤ k → frameUpTo k (putRecords rs) ≡ whole rs
-unfolding putRecords putRecord put16 frameUpTo stop push whole
-frameUpTo-records [] fit zero l = refl
-frameUpTo-records [] fit (suc k) l = refl
-frameUpTo-records (r ∷ rs) fit zero l = absurd (omega arith)
-frameUpTo-records (r ∷ rs) fit (suc k) l =
-    let f = fit r (List·Memᴰ·head refl) in
-    let shorter : length (putRecords rs) ≤ k = omega (arith, length-append (r .body) (putRecords rs)) in
-    let rest = frameUpTo-records rs (λ s i. fit s (List·Memᴰ·tail i)) k shorter in
-    frame-first k (r .kind) (r .body) (putRecords rs) (f .kind-below) (f .length-below) ∙ ap (push r) rest
-
 pub frame-records : (rs : List Record) → AllFit rs → frame (putRecords rs) ≡ record { records = rs; broken = false }
-unfolding frame whole
-frame-records rs fit = frameUpTo-records rs fit (length (putRecords rs)) (omega arith)
+unfolding putRecords stop push
+frame-records [] fit = frame-none [] refl
+frame-records (r ∷ rs) fit =
+    let f = fit r (List·Memᴰ·head refl) in
+    let rest = frame-records rs (λ s i. fit s (List·Memᴰ·tail i)) in
+    frame-put (r .kind) (r .body) (putRecords rs) (f .kind-below) (f .length-below) ∙ ap (push r) rest
+
+-- ---- One record alone
+
+-- one whole record and nothing more
+abbrev pub alone : Record → Framed
+alone r = record { records = r ∷ []; broken = false }
+
+-- a record put in front of others is alone only if nothing follows
+push-alone : (x r : Record) (f : Framed) → push x f ≡ alone r → (x ≡ r) × (f ≡ record { records = []; broken = false })
+unfolding push
+push-alone x r f e =
+    let one : x ∷ f .records ≡ r ∷ [] = ap (λ g. g .records) e in
+    let none : f .records ≡ [] = cc in
+    let whole : f .broken ≡ false = ap (λ g. g .broken) e in
+    (cc, λ i. record { records = none i; broken = whole i })
+
+-- a record's bytes are framed as that one record; and bytes that are framed as one whole record are its bytes
+pub frame-putRecord : (kind : ℕ) (body : List ℕ) → kind < 65536 → length body < 65536
+    → frame (putRecord kind body) ≡ alone (record { kind = kind; body = body })
+unfolding stop push
+frame-putRecord kind body k l =
+    ap frame (sym (append-nil (putRecord kind body))) ∙ frame-put kind body [] k l ∙ ap (push _) (frame-none [] refl)
+
+-- where nothing is framed, nothing is left
+frame-empty : (b : List ℕ) → frame b ≡ record { records = []; broken = false } → b ≡ []
+unfolding frame frameUpTo stop push
+frame-empty [] e = refl
+frame-empty (a ∷ []) e = let no-end : true ≡ false = ap (λ f. f .broken) e in cc
+frame-empty (a ∷ b ∷ []) e = let no-end : true ≡ false = ap (λ f. f .broken) e in cc
+frame-empty (a ∷ b ∷ c ∷ []) e = let no-end : true ≡ false = ap (λ f. f .broken) e in cc
+frame-empty (a ∷ b ∷ c ∷ d ∷ rest) e = go (leb (a + 256 * b) (length rest)) refl
+  where
+    go : (t : Bool) → leb (a + 256 * b) (length rest) ≡ t → _≡_ {A = List ℕ} (a ∷ b ∷ c ∷ d ∷ rest) []
+    go true u = let no-record : _≡_ {A = List Record} (_ ∷ _) [] = ap (λ f. f .records) (rw u at e) in cc
+    go false u = let no-end : true ≡ false = ap (λ f. f .broken) (rw u at e) in cc
+
+-- four bytes and a body of as many bytes as the first two say are a record
+putRecord-parts : (a b c d : ℕ) (body : List ℕ) → Bytes (a ∷ b ∷ c ∷ d ∷ body) → length body ≡ a + 256 * b
+    → a ∷ b ∷ c ∷ d ∷ body ≡ putRecord (c + 256 * d) body
+unfolding putRecord
+putRecord-parts a b c d body h l = rw (l, put16-bytes a b (h 0) (h 1), put16-bytes c d (h 2) (h 3))
+
+pub putRecord-frame : (b : List ℕ) (r : Record) → Bytes b → frame b ≡ alone r → b ≡ putRecord (r .kind) (r .body)
+unfolding frame frameUpTo stop
+putRecord-frame [] r h e = let no-record : [] ≡ r ∷ [] = ap (λ f. f .records) e in cc
+putRecord-frame (a ∷ []) r h e = let no-end : true ≡ false = ap (λ f. f .broken) e in cc
+putRecord-frame (a ∷ b ∷ []) r h e = let no-end : true ≡ false = ap (λ f. f .broken) e in cc
+putRecord-frame (a ∷ b ∷ c ∷ []) r h e = let no-end : true ≡ false = ap (λ f. f .broken) e in cc
+putRecord-frame (a ∷ b ∷ c ∷ d ∷ rest) r h e = go (leb n (length rest)) refl
+  where
+    n : ℕ
+    n = a + 256 * b
+
+    x : Record
+    x = record { kind = c + 256 * d; body = take n rest }
+
+    go : (t : Bool) → leb n (length rest) ≡ t → a ∷ b ∷ c ∷ d ∷ rest ≡ putRecord (r .kind) (r .body)
+    go true u =
+        let only = push-alone x r (frame (drop n rest)) (rw u at (sym (frame-cons a b c d rest) ∙ e)) in
+        let fits : n ≤ length rest = leb-true n (length rest) u in
+        let left : length rest ≤ n = omega (arith, length-drop n rest, ap length (frame-empty (drop n rest) (only .1))) in
+        let all : take n rest ≡ rest = take-all n rest left in
+        rw (← only .0, all) (putRecord-parts a b c d rest h (omega arith))
+    go false u = let no-end : true ≡ false = ap (λ f. f .broken) (rw u at e) in cc

@@ -78,7 +78,7 @@ unfolding traceUpTo LowNeverFalls ask
 low-rises p zero r s h f = tt
 low-rises p (suc k) r s h f = (h, f)
 
-abbrev round : ℕ → Option ℕ → ℕ → Round
+abbrev pub round : ℕ → Option ℕ → ℕ → Round
 round low high b = record { low = low; high = high; budget = b }
 
 kept-unset : (p : Problem) (low b : ℕ) → p .estimate (p .start) ≤ low → 1 ≤ b → Kept p (round low none b)

@@ -44,7 +44,7 @@ module _ {A : Type 0} where
   back [] = empty
   back (a ∷ l) = cons-back a (back l)
 
-  snoc-injective : (l m : List A) (a b : A) → l ++ (a ∷ []) ≡ m ++ (b ∷ []) → (l ≡ m) × (a ≡ b)
+  pub snoc-injective : (l m : List A) (a b : A) → l ++ (a ∷ []) ≡ m ++ (b ∷ []) → (l ≡ m) × (a ≡ b)
   snoc-injective [] [] a b e = (refl, cc)
   snoc-injective [] (y ∷ m) a b e = absurd (concat-ne-nil b m (cc))
   snoc-injective (x ∷ l) [] a b e = absurd (concat-ne-nil a l (cc))
@@ -127,7 +127,7 @@ pub record Along (p : Problem) (C v d : ℕ) (r : List ℕ) : Type 0 where
   pub within : Within C path
   pub in-order : places path ≡ r
 
-parentBy-some : (a : Arc) (v : ℕ) (o e : Option ℕ) (u : ℕ) → parentBy a v o e ≡ some u
+pub parentBy-some : (a : Arc) (v : ℕ) (o e : Option ℕ) (u : ℕ) → parentBy a v o e ≡ some u
     → (d : ℕ) × (o ≡ some d) × (e ≡ some (d + a .cost)) × (a .to ≡ v) × (a .from ≡ u)
 unfolding parentBy
 parentBy-some a v none e u h = none-some h
@@ -159,7 +159,7 @@ module _ (p : Problem) (C v d : ℕ) (e : costAt (table p C) v ≡ some d) where
   unfolding parent
   parent-lowest u h w = least-some (filterMap (candidate p C v) (p .arcs)) u h .1 (w .arc .from) (via-candidate w)
 
-  parent-via : (u : ℕ) → parent p (table p C) v ≡ some u → (w : Via p C v d) × (w .arc .from ≡ u)
+  pub parent-via : (u : ℕ) → parent p (table p C) v ≡ some u → (w : Via p C v d) × (w .arc .from ≡ u)
   unfolding parent
   parent-via u h =
       let listed = least-some (filterMap (candidate p C v) (p .arcs)) u h .0 in

@@ -1,4 +1,4 @@
--- Document 01, "Runs by hand": P1 to P10 as rows of one table, and the table as one theorem, computed from the definitions.
+-- Document 01, "Runs by hand": P1 to P10 as rows of one table, and the table as one theorem, computed from the definitions; then runs with several goals.
 use mathlib.Core.Path.{_≡_, refl}
 use mathlib.Core.Bool.{Bool, true, false, _&&_}
 use mathlib.Core.List.{List, [], _∷_, _++_}

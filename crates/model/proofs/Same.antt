@@ -21,12 +21,12 @@ use Rattle.model.proofs.Lists.{filterMap-member, least-none, least-some
 use Rattle.model.proofs.LeastCosts.{table-length, table-least}
 
 -- Boolean values of which each is true where the other is are the same
-bool-ext : (a b : Bool) → (a ≡ true → b ≡ true) → (b ≡ true → a ≡ true) → a ≡ b
+pub bool-ext : (a b : Bool) → (a ≡ true → b ≡ true) → (b ≡ true → a ≡ true) → a ≡ b
 bool-ext true b f g = sym (f refl)
 bool-ext false true f g = g refl
 bool-ext false false f g = refl
 
-option-ext : {A : Type 0} (o e : Option A) → ((x : A) → o ≡ some x → e ≡ some x) → ((x : A) → e ≡ some x → o ≡ some x) → o ≡ e
+pub option-ext : {A : Type 0} (o e : Option A) → ((x : A) → o ≡ some x → e ≡ some x) → ((x : A) → e ≡ some x → o ≡ some x) → o ≡ e
 option-ext none none f g = refl
 option-ext none (some y) f g = g y refl
 option-ext (some x) e f g = sym (f x refl)
@@ -55,7 +55,7 @@ image-moves f g xs ys to agree y i =
     filterMap-member g ys y .1 (x, to x j, sym (agree x j) ∙ e)
 
 -- the least of what f gives of xs is the least of what g gives of ys, where xs and ys have the same members and f and g agree on them
-same-least-image : {A : Type 0} (f g : A → Option ℕ) (xs ys : List A) → ((x : A) → List·Memᴰ x xs → List·Memᴰ x ys)
+pub same-least-image : {A : Type 0} (f g : A → Option ℕ) (xs ys : List A) → ((x : A) → List·Memᴰ x xs → List·Memᴰ x ys)
     → ((x : A) → List·Memᴰ x ys → List·Memᴰ x xs) → ((x : A) → List·Memᴰ x xs → f x ≡ g x) → least (filterMap f xs) ≡ least (filterMap g ys)
 same-least-image f g xs ys to from agree =
     same-least (filterMap f xs) (filterMap g ys) (image-moves f g xs ys to agree)

@@ -1,6 +1,6 @@
 -- Sheets are read back as they were written, and what is accepted was written so. Assumes nothing.
 use mathlib.Core.Path.{_≡_, refl, sym, ap, _∙_}
-use mathlib.Core.Bool.{Bool, true, false, cond, _&&_, _||_}
+use mathlib.Core.Bool.{Bool, true, false, cond, _||_}
 use mathlib.Core.List.{List, [], _∷_, _++_, append-assoc, append-nil}
 use Prim.Native.Nat.{ℕ, zero, suc, _+_, _-_, _*_, _≤_, _<_}
 use native.Mathlib.Decide.{decLt}
@@ -8,7 +8,7 @@ use native.Mathlib.Omega.{arith}
 use lib.Dec.{ltb, leb, eqb}
 use lib.ListN.{length, getD, take, replicate, List·getD-eq-default}
 use lib.Seq.{take-all, take-add, take-append-seam}
-use borrow.Author.Tests.{ltb-false, leb-false, eqb-true, le-ltb, le-leb, lt-leb, eq-eqb}
+use borrow.Author.Tests.{ltb-false, leb-false, eqb-true, le-ltb, lt-leb, eq-eqb}
 use Rattle.model.specs.Lists.{any, repeats}
 use Rattle.model.specs.Bytes.{Bytes, u16, u32, u16s, put16, put32, put16s}
 use Rattle.model.specs.Framing.{Record, frame, putRecord}
@@ -30,9 +30,8 @@ use Rattle.model.specs.Sheets.{
   readSheet,
 }
 use Rattle.model.proofs.Lists.{or-false, and-true}
-use Rattle.model.proofs.Indices.{any-nowhere, nowhere-any, repeats-different, different-repeats}
+use Rattle.model.proofs.Indices.{Different, any-nowhere, nowhere-any, repeats-different, different-repeats}
 use Rattle.model.proofs.Bytes.{
-  alone,
   put16s-length,
   u16s-length,
   u16-put16,
@@ -41,16 +40,15 @@ use Rattle.model.proofs.Bytes.{
   put16-u16,
   put32-u32,
   put16s-u16s,
-  frame-putRecord,
-  putRecord-frame,
 }
+use Rattle.model.proofs.Records.{alone, frame-putRecord, putRecord-frame}
 
 -- what a route sheet may hold: 1 to 4,096 different places of at most 4,095 and a cost in range
 pub record Possible (cost : ℕ) (places : List ℕ) : Type 0 where
   pub some-place : 1 ≤ length places
   pub few-places : length places ≤ maxPlaces
   pub place-below : (i : ℕ) → i < length places → getD places i 0 < maxPlaces
-  pub different : (i j : ℕ) → i < j → j < length places → getD places i 0 ≡ getD places j 0 → ⊥
+  pub different : Different places
   pub cost-above : length places - 1 ≤ cost
   pub cost-below : cost ≤ (length places - 1) * maxCost
 
@@ -86,7 +84,7 @@ not-impossible cost places h =
       le-ltb ((p - 1) * maxCost) cost (h .cost-below),
     )
 
-one-place : (x : ℕ) → x < maxPlaces → Possible 0 (x ∷ [])
+pub one-place : (x : ℕ) → x < maxPlaces → Possible 0 (x ∷ [])
 one-place x h =
     record {
       some-place = omega arith;
@@ -144,9 +142,8 @@ read-route : (body : List ℕ) (cost : ℕ) (places : List ℕ) → length body 
     → readRecord (record { kind = routeKind; body = body }) ≡ reading 0 cost places
 unfolding readRecord fitsRoute checked
 read-route body cost places l f h =
-    let enough : leb 6 (length body) ≡ true = le-leb 6 (length body) (omega arith) in
     let exact : eqb (length body) (6 + 2 * length places) ≡ true = eq-eqb (length body) (6 + 2 * length places) l in
-    rw (enough, f .counts, exact, f .costs, f .lists, not-impossible cost places h)
+    rw (f .counts, exact, f .costs, f .lists, not-impossible cost places h)
 
 read-no-route : (body : List ℕ) (start : ℕ) → length body ≡ 2 → u16 body 0 ≡ start → start < maxPlaces
     → readRecord (record { kind = noRouteKind; body = body }) ≡ reading 17 0 (start ∷ [])
@@ -216,10 +213,9 @@ module _ (b : List ℕ) where
       go : (t : Bool) → fitsRoute r ≡ t → (u : Bool) → fitsNoRoute r ≡ u
           → Outcome b (cond t (checked 0 (u32 x 0) (u16s (u16 x 4) x 6)) (cond u (checked 17 0 (u16 x 0 ∷ [])) (refusedRead 18)))
       go true f u g =
-          let exact = and-true (eqb (r .kind) routeKind && leb 6 (length x)) (eqb (length x) (6 + 2 * u16 x 4)) f in
-          let kind = and-true (eqb (r .kind) routeKind) (leb 6 (length x)) (exact .0) in
-          let framed = of-kind routeKind (eqb-true (r .kind) routeKind (kind .0)) in
-          checked-outcome 0 (u32 x 0) (u16s (u16 x 4) x 6) (a-route x framed (eqb-true (length x) (6 + 2 * u16 x 4) (exact .1)))
+          let both = and-true (eqb (r .kind) routeKind) (eqb (length x) (6 + 2 * u16 x 4)) f in
+          let framed = of-kind routeKind (eqb-true (r .kind) routeKind (both .0)) in
+          checked-outcome 0 (u32 x 0) (u16s (u16 x 4) x 6) (a-route x framed (eqb-true (length x) (6 + 2 * u16 x 4) (both .1)))
       go false f true g =
           let both = and-true (eqb (r .kind) noRouteKind) (eqb (length x) 2) g in
           let framed = of-kind noRouteKind (eqb-true (r .kind) noRouteKind (both .0)) in

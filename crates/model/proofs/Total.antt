@@ -1,4 +1,4 @@
--- Theorem T: the bound on the total of the queries, by one invariant over what is still to come, the budget and the queries left in the round.
+-- The bound on the total of the queries, by one invariant over what is still to come, the budget and the queries left in the round.
 -- Assumes nothing.
 use mathlib.Core.Path.{_≡_, refl, sym, _∙_, ap}
 use mathlib.Core.Logic.{_⊎_, inl, inr, _↔_}
@@ -10,21 +10,17 @@ use native.Mathlib.Nat.{two-pow-succ, mul-suc, mul-add, suc-mul, mul-assoc, mul-
 use native.Mathlib.Nat.{mul-le-mul-left, mul-le-mul-right, one-le-mul, le-div-iff-mul-le}
 use native.Mathlib.Omega.{arith}
 use lib.Dec.{eqb}
-use lib.ListN.{length}
 use lib.Pow.{pow-pos}
 use borrow.Author.Tests.{eqb-true}
 use Rattle.model.specs.Numbers.{digitsUpTo, binaryDigits}
 use Rattle.model.specs.Problem.{Problem, Valid}
-use Rattle.model.specs.Costs.{table}
 use Rattle.model.specs.Query.{Outcome, ended, over, found, nothing, query}
 use Rattle.model.specs.Rounds.{Round, Step, firstRound, limitOf, closeIf, settle, after, ask, next, goOn, traceUpTo, enough, trace, total}
 use Rattle.model.specs.Terms.{Kept, Closes}
 use Rattle.model.proofs.Lists.{none-some}
-use Rattle.model.proofs.LeastCosts.{table-length}
-use Rattle.model.proofs.Keys.{within-length}
-use Rattle.model.proofs.Queries.{ended-next, over-exceeds, cost-at-most-budget}
+use Rattle.model.proofs.Queries.{ended-next, cost-at-most-budget}
 use Rattle.model.proofs.Crossing.{next-above-limit}
-use Rattle.model.proofs.Rounds.{asked, kept-first, kept-next, rounds-kept, low-below}
+use Rattle.model.proofs.Rounds.{round, over-short, asked, kept-first, kept-next, rounds-kept, low-below}
 
 digits-up-to : (k n d : ℕ) → n ≤ k → (digitsUpTo k n ≤ d) ↔ (n < 2 ^ d)
 unfolding digitsUpTo
@@ -103,9 +99,6 @@ module _ (p : Problem) (ok : Valid p) where
           → Proceeds d r (closeIf x (p .growth) low h (r .budget))
       go true e c = inr (record { unset = refl; grown = refl; was-over = rw (eqb-true low h e) o })
       go false e c = inl (record { same = refl; fewer = f (c .high-above h refl) })
-
-  abbrev round : ℕ → Option ℕ → ℕ → Round
-  round low high b = record { low = low; high = high; budget = b }
 
   proceeds-ended : (d low : ℕ) (high : Option ℕ) (b x : ℕ) → Kept p (round low high b) → Kept p (settle (p .growth) x high b)
       → low < 2 ^ d → limitOf low high < x → Proceeds d (round low high b) (settle (p .growth) x high b)
@@ -216,11 +209,11 @@ module _ (p : Problem) (ok : Valid p) where
       go none e v ih = keeps-last n d r [] k low (omega (arith, used-below n d (r .budget) small))
       go (some s) e v ih = onward s e (λ h. ih s (kept-next p ok r s k e) h v) (proceeds d r s k low e)
 
-  pub theorem-T : (n d : ℕ) → 1 ≤ n → ((s : Step) → List·Memᴰ s (trace p) → s .round .low < 2 ^ d)
+  pub total-bounded : (n d : ℕ) → 1 ≤ n → ((s : Step) → List·Memᴰ s (trace p) → s .round .low < 2 ^ d)
       → ((s : Step) → List·Memᴰ s (trace p) → Closes p s → s .round .budget < n)
       → (p .growth - 1) * total (trace p) ≤ p .growth * p .growth * n * (2 * d + 1)
   unfolding trace firstRound
-  theorem-T n d h l c =
+  total-bounded n d h l c =
       let small = one-le-mul {a = p .growth} (omega (arith, ok .grows)) h in
       let first = keeps n d enough (firstRound p) (kept-first p ok) small (record { low-below = l; closes-below = c }) in
       omega (arith, grow (total (trace p)) 1 (omega (arith, ok .grows)) (left-at-first d (p .estimate (p .start))) first)
@@ -240,14 +233,9 @@ module _ (p : Problem) (ok : Valid p) where
 
   pub total-any : (p .growth - 1) * total (trace p) ≤ 59 * p .growth * p .growth * p .places
   total-any =
-      let all = theorem-T (p .places) 29 (ok .some-place) (low-below p ok) closes-below in
+      let closes-below : (s : Step) → List·Memᴰ s (trace p) → Closes p s → s .round .budget < p .places = λ s i c. over-short p ok _ _ (closes-over s i c) in
+      let all = total-bounded (p .places) 29 (ok .some-place) (low-below p ok) closes-below in
       omega (arith, all, mul-assoc 59 (p .growth) (p .growth), mul-assoc 59 (p .growth * p .growth) (p .places))
-    where
-      closes-below : (s : Step) → List·Memᴰ s (trace p) → Closes p s → s .round .budget < p .places
-      closes-below s i c =
-          let t = table p (c .round .low) in
-          let length-is : length t ≡ p .places = table-length p (c .round .low) in
-          omega (arith, over-exceeds p (c .round .low) (s .round .budget) (closes-over s i c), within-length t, length-is)
 
   pub total-at-most : total (trace p) ≤ (59 * p .growth * p .growth * p .places + (p .growth - 2)) / (p .growth - 1)
   total-at-most =

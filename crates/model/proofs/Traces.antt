@@ -76,9 +76,9 @@ module _ (p : Problem) (ok : Valid p) where
   BudgetBelow r = r .budget ≤ p .growth * p .places
 
   -- the budget is 1, or the growth times one below N
-  pub budget-below : (s : Step) → List·Memᴰ s (trace p) → s .round .budget ≤ p .growth * p .places
+  pub budget-at-most : (s : Step) → List·Memᴰ s (trace p) → s .round .budget ≤ p .growth * p .places
   unfolding firstRound
-  budget-below s i = along p (λ r. Kept p r × BudgetBelow r) (kept-first p ok, first) step s i .1
+  budget-at-most s i = along p (λ r. Kept p r × BudgetBelow r) (kept-first p ok, first) step s i .1
     where
       first : BudgetBelow (firstRound p)
       first = one-le-mul (omega (arith, ok .grows)) (ok .some-place)

@@ -1,6 +1,6 @@
--- The call as a whole: from the input and the two lent areas to the answer and both areas after it. Every public promise cites `route`.
+-- The call as a whole: from the input and the two lent areas to the answer and both areas after it. The call's promise cites `route`.
 use mathlib.Core.Bool.{Bool, true, false}
-use mathlib.Core.List.{List, [], _∷_, _++_}
+use mathlib.Core.List.{List, [], _++_}
 use mathlib.Core.Option.{Option, none, some}
 use Prim.Native.Nat.{ℕ, zero, suc}
 use lib.ListN.{length, drop, replicate}
@@ -29,7 +29,8 @@ unfoldable pub finished : Problem → Search → Table → Option Key → Ending
 finished p s t none = noRoute (p .start) (s .last .limit) (s .expansions) (s .queries)
 finished p s t (some g) = routed (g .cost) (routeTo p t g) (s .last .limit) (s .expansions) (s .queries)
 
--- The last query of a search that is not spent is found, with a first goal, or none, with no goal within.
+-- The last query of a search that is not spent is found, with a first goal, or none, with no goal within. Limit is "the last C"; floor is "low in
+-- the query that was cut".
 unfoldable pub searched : Problem → Search → Bool → Ending
 searched p s true = spent (s .last .round .low) (s .expansions) (s .queries)
 searched p s false = let t = table p (s .last .limit) in finished p s t (firstGoal p t)
@@ -65,6 +66,7 @@ sheetOf (spent f e q) = []
 sheetOf (noRoute s l e q) = noRouteSheet s
 sheetOf (routed c r l e q) = routeSheet c r
 
+-- "Floor is 0 in every other answer. Cost is 0 after 17. Sheet bytes is the sheet's whole length, and 0 after 16."
 unfoldable pub answerOf : Ending → Answer
 answerOf (refused n) = answer n 0 0 0 0 0 0
 answerOf (spent f e q) = answer 16 0 0 f e q 0
@@ -88,6 +90,7 @@ pub record Result : Type 0 where
   pub work : List ℕ
   pub sheet : List ℕ
 
+-- "After 16 the sheet area is unchanged. After 0 and 17 bytes beyond the sheet are unchanged."
 unfoldable pub route : (input work sheet : List ℕ) → Result
 route input work sheet =
     let f = frame input in

@@ -1,4 +1,5 @@
 -- A call and what it comes to, in short words for the demands.
+use mathlib.Core.Path.{_≡_}
 use mathlib.Core.List.{List}
 use Prim.Native.Nat.{ℕ}
 use lib.ListN.{length, take}
@@ -33,3 +34,10 @@ module _ (c : Call) where
 
   abbrev pub IsAccepted : Type 0
   IsAccepted = Accepted (c .input) (length (c .work)) (length (c .sheet))
+
+-- the bytes b are the sheet that an accepted call writes for this job
+pub record IsWritten (job b : List ℕ) : Type 0 where
+  pub call : Call
+  pub is-job : call .input ≡ job
+  pub accepted : IsAccepted call
+  pub on-sheet : written call ≡ b

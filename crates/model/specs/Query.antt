@@ -48,7 +48,7 @@ crossing p a (some d) none = some (d + a .cost + p .estimate (a .to))
 unfoldable pub nextLimit : Problem → Table → Option ℕ
 nextLimit p t = least (filterMap (λ (a : Arc). crossing p a (costAt t (a .from)) (costAt t (a .to))) (p .arcs))
 
--- `nothing` is document 01's none.
+-- "one of ended, over, found, none"; `nothing` is document 01's none.
 pub data Outcome : Type 0 where
   ended : ℕ → Outcome
   over found nothing : Outcome
@@ -57,6 +57,7 @@ pub record Query : Type 0 where
   pub outcome : Outcome
   pub cost : ℕ
 
+-- "Not over and a goal within is found. Otherwise … ended with that number, or none if there is no such arc."
 unfoldable pub notOver : Option Key → Option ℕ → Outcome
 notOver (some g) next = found
 notOver none (some x) = ended x

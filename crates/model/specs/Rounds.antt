@@ -32,7 +32,7 @@ unfoldable pub settle : ℕ → ℕ → Option ℕ → ℕ → Round
 settle q low none b = record { low = low; high = none; budget = b }
 settle q low (some high) b = closeIf (eqb low high) q low high b
 
--- "Ended sets low to its number, over sets high to C. Found and none finish the job."
+-- "Ended sets low to its number, over sets high to C." "Found and none finish the job."
 unfoldable pub after : ℕ → Round → ℕ → Outcome → Option Round
 after q r C (ended x) = some (settle q x (r .high) (r .budget))
 after q r C over = some (settle q (r .low) (some C) (r .budget))
@@ -75,7 +75,8 @@ unfoldable pub total : List Step → ℕ
 total [] = 0
 total (s ∷ ss) = s .query .cost + total ss
 
--- the queries begun under an allowance: up to and with the first that would exceed what is left of it
+-- the queries begun under an allowance: up to and with the first that would exceed what is left of it. "A budget reached on the same expansion as
+-- the allowance counts first": a query that costs just what is left is not cut.
 unfoldable pub begun : ℕ → List Step → List Step
 begun allowance [] = []
 begun allowance (s ∷ ss) =
@@ -89,7 +90,7 @@ pub record Search : Type 0 where
   -- the last query begun, which is the one cut where the allowance is spent
   pub last : Step
 
--- "16 is given exactly when the uncut total exceeds the allowance. Expansions then equals the allowance."
+-- "16 is given exactly when the uncut total exceeds the allowance. Expansions then equals the allowance." "Queries counts every query begun."
 unfoldable pub search : Problem → ℕ → Search
 search p allowance =
     let ss = trace p in

@@ -1,10 +1,10 @@
 -- The route within C that a table gives, by the rule that reads it from the goal back.
-use mathlib.Core.Bool.{Bool, cond, _&&_}
+use mathlib.Core.Bool.{cond, _&&_}
 use mathlib.Core.List.{List, [], _∷_, _++_}
 use mathlib.Core.Option.{Option, none, some}
 use Prim.Native.Nat.{ℕ, zero, suc, _+_}
-use lib.Dec.{ltb, eqb}
-use Rattle.model.specs.Lists.{filterMap, least, leastBy}
+use lib.Dec.{eqb}
+use Rattle.model.specs.Lists.{filterMap, least}
 use Rattle.model.specs.Problem.{Problem, Arc}
 use Rattle.model.specs.Costs.{Table, costAt}
 use Rattle.model.specs.Query.{Key}

@@ -53,7 +53,7 @@ unfoldable pub checked : ℕ → ℕ → List ℕ → Reading
 checked number cost places = cond (impossible cost places) (refusedRead 19) (reading number cost places)
 
 unfoldable pub fitsRoute : Record → Bool
-fitsRoute r = let n = length (r .body) in eqb (r .kind) routeKind && leb 6 n && eqb n (6 + 2 * u16 (r .body) 4)
+fitsRoute r = eqb (r .kind) routeKind && eqb (length (r .body)) (6 + 2 * u16 (r .body) 4)
 
 unfoldable pub fitsNoRoute : Record → Bool
 fitsNoRoute r = eqb (r .kind) noRouteKind && eqb (length (r .body)) 2

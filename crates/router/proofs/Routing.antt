@@ -86,19 +86,12 @@ searched-writable : {n start allowance : ℕ} {loaded work : List ℕ} (v : Verd
 unfolding problemAt
 searched-writable (Spent f q) sheet ok s words room = tt
 searched-writable (NoRoute l x q) sheet ok s words room =
-    record { start-below = omega (arith, ok .start-below, ok .few-places); room = omega arith }
+    record { room = omega arith }
 searched-writable {n} {start} {allowance} {loaded = loaded} (verdict.Routed c g l x q) sheet ok s words room =
     let (r, is, follows) = s .means in
     let can-be = searched-possible (problemAt n start loaded) ok allowance is in
-    record {
-      few = ok .few-places;
-      words = words;
-      places = r;
-      follows = follows;
-      some-place = can-be .some-place;
-      few-places = follows-few follows (can-be .different);
-      room = room;
-    }
+    let few = follows-few follows (can-be .different) in
+    record { leads = record { few = ok .few-places; words = words; places = r; follows = follows; few-places = few }; room = room }
 
 module _ {input work₀ sheet₀ loaded work : List ℕ} {j : Job} {v : Verdict}
     (bytes : Bytes input)

@@ -4,26 +4,21 @@ use mathlib.Core.List.{List, [], _∷_}
 use Prim.Native.Nat.{ℕ, suc, _+_, _-_, _*_, _≤_}
 use native.Mathlib.Omega.{arith}
 use lib.ListN.{length, take, drop, set, replicate, length-replicate}
-use lib.Seq.{drop-drop, sets, length-take-le}
+use lib.Seq.{sets, length-take-le}
 use borrow.Rule.Slice.PartMut.{putMid}
+use Rattle.area.proofs.Parts.{less-after}
 use Rattle.map.specs.Layout.{endsAt, arcsAt, Loaded}
 use Rattle.model.specs.Answer.{overFront}
 use Rattle.search.specs.Rounds.{Searched}
 use Rattle.search.specs.declared.Verdict.{Verdict}
-
--- lists that agree from a on agree from every later index on
-drop-later : (xs ys : List ℕ) (a b : ℕ) → a ≤ b → drop a xs ≡ drop a ys → drop b xs ≡ drop b ys
-drop-later xs ys a b l e =
-    let later : b ≡ a + (b - a) = omega arith in
-    rw (later, ← (drop-drop (b - a) a xs), ← (drop-drop (b - a) a ys), e)
 
 -- Loading and searching leave the words beyond the arcs as they were.
 pub rest-kept : {input work₀ loaded work : List ℕ} {n m start allowance : ℕ} {v : Verdict}
     → Loaded input n m start work₀ loaded → Searched n start allowance loaded work v
     → drop (16 * n + 2 * m) work ≡ drop (16 * n + 2 * m) work₀
 rest-kept {work₀ = work₀} {loaded = loaded} {work = work} {n = n} {m = m} l s =
-    drop-later work loaded (endsAt n) (16 * n + 2 * m) (omega arith) (s .same-map)
-    ∙ drop-later loaded work₀ (arcsAt n + m) (16 * n + 2 * m) (omega arith) (l .rest)
+    less-after (16 * n + 2 * m) (endsAt n) loaded work (omega arith) (s .same-map)
+    ∙ less-after (16 * n + 2 * m) (arcsAt n + m) work₀ loaded (omega arith) (l .rest)
 
 -- The front of the words comes back as zeros, and the rest is as in work₀.
 pub cleared : (need : ℕ) (work₀ work front : List ℕ) → need ≤ length work → drop need work ≡ drop need work₀

@@ -21,7 +21,7 @@ pub record Stated (input : List ℕ) (j : Job) (work sheet : List ℕ) : Type 0 
 -- what the writer asks for the sheet of a verdict, if it has one
 abbrev pub Writable : (n start : ℕ) → Verdict → (work sheet : List ℕ) → Type 0
 Writable n start (Spent floor queries) work sheet = Unit {0}
-Writable n start (NoRoute limit expansions queries) work sheet = FitsNoRoute start sheet
+Writable n start (NoRoute limit expansions queries) work sheet = FitsNoRoute sheet
 Writable n start (Routed cost goal limit expansions queries) work sheet = FitsRoute n goal work sheet
 
 -- the sheet is that of the ending which the verdict means; the bytes beyond it are as before

@@ -100,7 +100,7 @@ fn accepted(input: &[u8], job: Job, work: &mut [u32], sheet: &mut [u8]) -> Answe
     map::load::load(input, job, work);
     let verdict = search::search(work, map, job.start, job.allowance);
     let bytes = write_sheet(verdict, job, work, sheet);
-    let need = 16 * map.places + 2 * map.arcs;
+    let need = map.words();
     area::fill(&mut work[0..need], 0);
     numbers(verdict, job.allowance, bytes)
 }

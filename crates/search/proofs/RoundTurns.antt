@@ -93,7 +93,7 @@ module _ {n m start : ℕ} {w₀ : List ℕ} (holds : Holds n m start w₀) wher
 
     pub budget-below : round .budget ≤ 2 * maxPlaces
     unfolding problemAt
-    budget-below = omega (arith, underway.asked-budget-below p (holds .valid) a (s .underway), sizes)
+    budget-below = omega (arith, underway.asked-budget-at-most p (holds .valid) a (s .underway), sizes)
 
     -- the query that begins is one of the trace's, so that the queries can be counted
     pub query-left : q < length (trace p)

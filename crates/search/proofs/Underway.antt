@@ -88,9 +88,9 @@ module _ (p : Problem) (ok : Valid p) (a : ℕ) where
     unfolding ask
     asked-limit-below = laws.limit-below p ok (ask p r) in-trace
 
-    pub asked-budget-below : r .budget ≤ p .growth * p .places
+    pub asked-budget-at-most : r .budget ≤ p .growth * p .places
     unfolding ask
-    asked-budget-below = laws.budget-below p ok (ask p r) in-trace
+    asked-budget-at-most = laws.budget-at-most p ok (ask p r) in-trace
 
     pub start-within-asked : p .estimate (p .start) ≤ limitOf (r .low) (r .high)
     start-within-asked = omega (arith, kept .start-low, low-limit p ok r kept)

@@ -57,13 +57,12 @@ module _ (body : List ℕ) where
 abbrev routeRead : List ℕ → Reading
 routeRead body = readRecord (record { kind = routeKind; body = body })
 
-pub route-short : (body : List ℕ) → length body < 6 → routeRead body ≡ refusedRead 18
+pub route-unfit : (body : List ℕ) → (length body ≡ 6 + 2 * u16 body 4 → ⊥) → routeRead body ≡ refusedRead 18
 unfolding readRecord fitsRoute fitsNoRoute
-route-short body l = rw (lt-leb 6 (length body) l)
+route-unfit body ne = rw (ne-eqb (length body) (6 + 2 * u16 body 4) ne)
 
-pub route-unfit : (body : List ℕ) → 6 ≤ length body → (length body ≡ 6 + 2 * u16 body 4 → ⊥) → routeRead body ≡ refusedRead 18
-unfolding readRecord fitsRoute fitsNoRoute
-route-unfit body l ne = rw (le-leb 6 (length body) l, ne-eqb (length body) (6 + 2 * u16 body 4) ne)
+pub route-short : (body : List ℕ) → length body < 6 → routeRead body ≡ refusedRead 18
+route-short body l = route-unfit body (λ e. omega arith)
 
 -- the first fields of a body that its count fits
 pub record Header (body : List ℕ) (cost count : ℕ) : Type 0 where
@@ -83,7 +82,6 @@ module _ (body : List ℕ) (cost count : ℕ) (h : Header body cost count) where
   unfolding readRecord fitsRoute
   route-fits =
       rw (
-        le-leb 6 (length body) (omega arith),
         ← h .counts,
         eq-eqb (length body) (6 + 2 * count) (h .fits),
         ← h .costs,

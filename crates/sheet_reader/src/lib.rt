@@ -3,17 +3,18 @@ use map::Map;
 ghost use mathlib.Core.Path.{_≡_};
 ghost use Prim.Native.Nat.{_+_, _*_, _≤_};
 ghost use lib.ListN.{length};
+ghost use Rattle.model.specs.Limits.{maxPlaces};
 ghost use Rattle.model.specs.Sheets.{routeKind, noRouteKind, refusedRead, readRecord, readSheet, hostAnswer};
 ghost use Rattle.sheet_reader.specs.Read.{readingOf, Listed};
 
-const ROUTE: u16 = 17;
+const ROUTE_KIND: u16 = 17;
 
-const NO_ROUTE: u16 = 18;
+const NO_ROUTE_KIND: u16 = 18;
 
 // The numbers that a read gives: the first two of accepted sheets.
 pub const FOUND: u32 = 0;
 
-pub const NO_WAY: u32 = 17;
+pub const NO_ROUTE: u32 = 17;
 
 const NO_SHEET: u32 = 18;
 
@@ -49,7 +50,7 @@ fn refused(number: u32) -> Reading
 
 // One pass: a place that is no place of any map, or that was seen before, ends it.
 fn places_of(body: &[u8], count: usize) -> Places
-    requires { ⌜ (6 + 2 * count ≤ length (now body)) × (count ≤ 4096) ⌝ }
+    requires { ⌜ (6 + 2 * count ≤ length (now body)) × (count ≤ maxPlaces) ⌝ }
     ensures { λ r. ⌜ Listed (now (body .entry)) count (r .possible) (r .list) ⌝ }
 {
     let mut list = [0u16; Map::PLACES];
@@ -130,7 +131,7 @@ fn read_no_route(body: &[u8]) -> Reading
     let mut places = [0u16; Map::PLACES];
     places[0] = start;
     Reading {
-        number: NO_WAY,
+        number: NO_ROUTE,
         cost: 0,
         count: 1,
         places,
@@ -150,10 +151,10 @@ pub fn read(sheet: &[u8]) -> Reading
         return refused(NO_SHEET);
     }
     let body = &sheet[4..];
-    if kind == ROUTE {
+    if kind == ROUTE_KIND {
         return read_route(body);
     }
-    if kind == NO_ROUTE {
+    if kind == NO_ROUTE_KIND {
         return read_no_route(body);
     }
     refused(NO_SHEET)

@@ -4,12 +4,13 @@ use mathlib.Core.Path.{_≡_, refl, sym, ap, subst, _∙_}
 use mathlib.Core.Bool.{Bool, true, false, cond}
 use mathlib.Core.List.{List, [], _∷_, _++_}
 use mathlib.Core.Option.{Option, none, some}
-use Prim.Native.Nat.{ℕ, zero, suc, _+_, _≤_, _<_}
+use Prim.Native.Nat.{ℕ, _+_, _≤_, _<_}
 use native.Mathlib.Omega.{arith}
 use borrow.Author.Tests.{eq-eqb, ne-eqb}
 use lib.Dec.{eqb}
 use lib.ListN.{length, getD, length-append}
 use Rattle.open_list.specs.Entry.{noKey}
+use Rattle.model.proofs.Indices.{getD-default}
 use Rattle.map.specs.Layout.{parentsAt}
 use Rattle.search.specs.Area.{Follows, first, after, wordOr, parentAt}
 use Rattle.sheet_writer.specs.Places.{Earlier}
@@ -46,16 +47,10 @@ module _ {n : ℕ} {w : List ℕ} where
       let up-to-u : Follows n w u (b .earlier) = subst (λ (o : Option ℕ). Earlier n w o (b .earlier)) e (b .leads) in
       ap (λ (x : List ℕ). x ++ (v ∷ [])) (one-list f up-to-u) ∙ sym (b .joined)
 
--- an element that is there is the same under any default
-getD-in : (l : List ℕ) (i d e : ℕ) → i < length l → getD l i d ≡ getD l i e
-getD-in [] i d e h = absurd (omega arith)
-getD-in (x ∷ l) zero d e h = refl
-getD-in (x ∷ l) (suc i) d e h = getD-in l i d e (omega arith)
-
 -- the word of v's parent is what stands for v's parent
 pub parent-word : (n v : ℕ) (w : List ℕ) (i : ℕ) → i ≡ parentsAt n + v → i < length w → wordOr (getD w i 0) ≡ parentAt n w v
 unfolding parentAt
-parent-word n v w i q h = ap wordOr (getD-in w i 0 noKey h) ∙ ap (λ (k : ℕ). wordOr (getD w k noKey)) q
+parent-word n v w i q h = ap wordOr (getD-default w i 0 noKey h) ∙ ap (λ (k : ℕ). wordOr (getD w k noKey)) q
 
 -- a word u leads to the places s: to none where it is the word for none, else along the parents of u
 module _ (n u : ℕ) (w s : List ℕ) where

@@ -14,7 +14,7 @@ use Rattle.model.specs.Sheets.{routeKind, noRouteKind, routeSheet, noRouteSheet
 use Rattle.model.specs.Answer.{overFront}
 use Rattle.model.proofs.Bytes.{put16s-length}
 use Rattle.sheet_writer.specs.Header.{header, FitsHeader, HeaderWritten}
-use Rattle.sheet_writer.specs.Places.{Leads, Counted, FitsPlaces}
+use Rattle.sheet_writer.specs.Places.{Counted, FitsPlaces}
 use Rattle.sheet_writer.specs.Write.{NoRouteWritten, FitsRoute, RouteWritten}
 use Rattle.sheet_writer.proofs.Follows.{one-list}
 
@@ -62,33 +62,30 @@ route-length : (cost : ℕ) (places : List ℕ) → length (routeSheet cost plac
 unfolding routeSheet putRecord put16 put32
 route-length cost places = omega (arith, put16s-length places)
 
-pub route-written : {n goal cost count : ℕ} {w area₀ area₁ area : List ℕ} (h : FitsRoute n goal w area₀) → count ≡ length (h .places)
-    → HeaderWritten cost count area₀ area₁ → area ≡ sets area₁ 10 (put16s (h .places)) → RouteWritten n goal cost w area₀ area (10 + 2 * count)
+pub route-written : {n goal cost count : ℕ} {w area₀ area₁ area : List ℕ} (h : FitsRoute n goal w area₀) → count ≡ length (h .leads .places)
+    → HeaderWritten cost count area₀ area₁ → area ≡ sets area₁ 10 (put16s (h .leads .places)) → RouteWritten n goal cost w area₀ area (10 + 2 * count)
 route-written {cost = cost} {count = count} {area₀ = area₀} {area = area} h q e f =
-    let places = h .places in
+    let places = h .leads .places in
     let fields = next-field area₀ (header cost count) (put16s places) 10 (sym (header-length cost count)) (e .written) f in
     let sheet : header cost count ++ put16s places ≡ routeSheet cost places =
     ap (λ (k : ℕ). header cost k ++ put16s places) q ∙ header-places cost places in
     let k = route-length cost places in
-    let room : length (routeSheet cost places) ≤ length area₀ = omega (arith, h .few-places, h .room) in
+    let room : length (routeSheet cost places) ≤ length area₀ = omega (arith, h .leads .few-places, h .room) in
     let all = over (routeSheet cost places) area₀ area room (fields ∙ ap (λ (x : List ℕ). sets area₀ 0 x) sheet) in
     record {
-      bytes = λ r g. omega (arith, ap (λ (x : List ℕ). length (routeSheet cost x)) (one-list (h .follows) g));
-      written = λ r g. all ∙ ap (λ (x : List ℕ). overFront (routeSheet cost x) area₀) (one-list (h .follows) g);
+      bytes = λ r g. omega (arith, ap (λ (x : List ℕ). length (routeSheet cost x)) (one-list (h .leads .follows) g));
+      written = λ r g. all ∙ ap (λ (x : List ℕ). overFront (routeSheet cost x) area₀) (one-list (h .leads .follows) g);
     }
 
 module _ {n goal : ℕ} {w area₀ : List ℕ} (h : FitsRoute n goal w area₀) where
-  abbrev pub goal-leads : Leads n goal w
-  goal-leads = record { few = h .few; words = h .words; places = h .places; follows = h .follows; few-places = h .few-places }
-
   module _ {arcs : ℕ} (c : Counted n goal w arcs) where
     pub few-arcs : arcs < maxPlaces
-    few-arcs = omega (arith, c .count (h .places) (h .follows), h .few, h .few-places)
+    few-arcs = omega (arith, c .count (h .leads .places) (h .leads .follows), h .leads .few, h .leads .few-places)
 
     pub fits-header : FitsHeader (arcs + 1) area₀
     fits-header = record { few = omega (arith, few-arcs); room = omega (arith, h .room) }
 
     pub fits-places : {area : List ℕ} → length area ≡ length area₀ → FitsPlaces n goal arcs w area
     fits-places q =
-        let k = c .count (h .places) (h .follows) in
-        record { leads = goal-leads; count = k; room = omega (arith, h .few-places, h .room) }
+        let k = c .count (h .leads .places) (h .leads .follows) in
+        record { leads = h .leads; count = k; room = omega (arith, h .leads .few-places, h .room) }

@@ -1,3 +1,3 @@
-pub mod Write
 pub mod Header
 pub mod Places
+pub mod Write

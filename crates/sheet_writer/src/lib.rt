@@ -6,9 +6,9 @@ ghost use Rattle.search.specs.Area.{wordOr, parentAt};
 ghost use Rattle.sheet_writer.specs.Header.{FitsHeader, HeaderWritten};
 ghost use Rattle.sheet_writer.specs.Places.{HasParent, Leads, Counted, FitsPlaces, PlacesWritten};
 
-const ROUTE: u32 = 17;
+const ROUTE_KIND: u32 = 17;
 
-const NO_ROUTE: u32 = 18;
+const NO_ROUTE_KIND: u32 = 18;
 
 const NONE: u32 = open_list::NONE;
 
@@ -17,11 +17,11 @@ const FIRST: usize = 10;
 
 // Kind 18: the start.
 pub fn no_route(sheet: &mut [u8], start: u32) -> u32
-    requires { ⌜ FitsNoRoute start (now sheet) ⌝ }
+    requires { ⌜ FitsNoRoute (now sheet) ⌝ }
     ensures { λ r. ⌜ NoRouteWritten start (now (sheet .entry)) (now (sheet .exit)) r ⌝ }
 {
     area::put16(sheet, 0, 2);
-    area::put16(sheet, 2, NO_ROUTE);
+    area::put16(sheet, 2, NO_ROUTE_KIND);
     area::put16(sheet, 4, start);
     6
 }
@@ -66,7 +66,7 @@ fn put_header(sheet: &mut [u8], cost: u32, count: u32)
     ensures { λ _. ⌜ HeaderWritten cost count (now (sheet .entry)) (now (sheet .exit)) ⌝ }
 {
     area::put16(sheet, 0, 6 + 2 * count);
-    area::put16(sheet, 2, ROUTE);
+    area::put16(sheet, 2, ROUTE_KIND);
     area::put32(sheet, 4, cost);
     area::put16(sheet, 8, count);
 }

@@ -1,41 +1,30 @@
+-- The two fields of 2 bytes, lower first.
 use borrow.Author.Needs.{needs}
 use Rattle.model.specs.Bytes.{u32}
 use Rattle.area.proofs.u32_at.Statement.{statement}
 use Rattle.area.proofs.u32_at.Tie as tie
-use Rattle.area.proofs.u32_at.Reads as reads
-use Rattle.area.proofs.u32_at.Lts as lts
-use Rattle.area.proofs.u16_at.Reads as u16-at-reads
-use Rattle.area.proofs.wide16.Reads as wide16-reads
 
--- src/lib.rt:33:12
 u16-at-requires : tie.Need-u16-at-requires
 u16-at-requires c κs = search needs
 
--- src/lib.rt:33:5
 wide16-requires : tie.Need-wide16-requires
 wide16-requires c κs = search needs
 
--- src/lib.rt:33:53
 add-u16-at : tie.Need-add-u16-at
 add-u16-at c = search needs
 
--- src/lib.rt:33:43
 u16-at-requires-2 : tie.Need-u16-at-requires-2
 u16-at-requires-2 c κs = search needs
 
--- src/lib.rt:33:36
 wide16-requires-2 : tie.Need-wide16-requires-2
 wide16-requires-2 c κs = search needs
 
--- src/lib.rt:33:28
 mul-result : tie.Need-mul-result
 mul-result c = search needs
 
--- src/lib.rt:33:5
 add-result : tie.Need-add-result
 add-result c = search needs
 
--- src/lib.rt:29:1
 returns : tie.Need-returns
 unfolding u32
 returns c = search needs

@@ -1,8 +1,12 @@
 -- The loaded problem is the input's, its verdict's sheet is written, and the words that document 01 asks for are filled with 0.
 use borrow.Author.Needs.{needs}
-use Prim.Native.Nat.{_+_, _*_, _≤_}
+use mathlib.Core.Path.{_≡_, ap, _∙_}
+use Prim.Native.Nat.{ℕ, _+_, _*_, _≤_}
 use native.Mathlib.Omega.{arith}
-use lib.ListN.{length}
+use lib.ListN.{length, drop, replicate}
+use Rattle.map.specs.Layout.{Loadable}
+use Rattle.map.proofs.Known.{known}
+use Rattle.model.specs.Answer.{overFront}
 use Rattle.model.specs.Bytes.{Bytes}
 use Rattle.router.proofs.Routing.{enough-words, writable, searched-routed}
 use Rattle.router.proofs.Words.{rest-kept, cleared}
@@ -16,9 +20,15 @@ start c = c .before .before .before .before .before .before .before .before .bef
 bytes : (c : tie.After-search) → Bytes (start c .args .input .now)
 bytes c = λ i. c .before .before .before .before .before .before .before .before .before .shared-slice-known .given i .fits
 
--- the work area keeps its length
-enough : (c : tie.After-search) → 16 * start c .args .job .map .places + 2 * start c .args .job .map .arcs ≤ length (c .search .last .0)
-enough c = omega (arith, enough-words (start c .pre), c .before .before .before .before .load .kept .1 .1 .0, c .search .kept .0)
+-- the words that document 01 asks for lie in the work area, which keeps its length, and those beyond are as at the entry
+abbrev asked : tie.After-search → ℕ
+asked c = 16 * start c .args .job .map .places + 2 * start c .args .job .map .arcs
+
+enough : (c : tie.After-search) (need : ℕ) → need ≡ asked c → need ≤ length (c .search .last .0)
+enough c need is = omega (arith, enough-words (start c .pre), c .before .before .before .before .load .kept .1 .1 .0, c .search .kept .0)
+
+beyond : (c : tie.After-search) (need : ℕ) → need ≡ asked c → drop need (c .search .last .0) ≡ drop need (start c .args .work .now)
+beyond c need is = rw is (rest-kept (c .before .before .before .before .load .ensures) (c .search .ensures))
 
 load-requires : tie.Need-load-requires
 load-requires c κs = search needs
@@ -32,14 +42,14 @@ write-sheet-requires c κs =
     let load = searched .before .before .before .before .load in
     writable (bytes searched) (start searched .pre) (load .ensures) (searched .search .ensures) (searched .search .kept .0)
 
-mul-need : tie.Need-mul-need
-mul-need c = search needs
-
-mul-need-2 : tie.Need-mul-need-2
-mul-need-2 c = search needs
-
-add-need : tie.Need-add-need
-add-need c = search needs
+words-requires : tie.Need-words-requires
+words-requires c κs =
+    let searched = c .before .before .before .before .before .before .before in
+    let a = start searched .args in
+    let stated = start searched .pre in
+    let loadable : Loadable (a .input .now) (a .job) (a .work .now) = record { bytes = length (a .sheet .now); accepted = stated .accepted; states = stated .states } in
+    let facts = known (a .input .now) (a .job) (a .work .now) (bytes searched) loadable in
+    (facts .few, omega (arith, facts .arcs, facts .few-arcs))
 
 sub-fill : tie.Need-sub-fill
 sub-fill c = search needs
@@ -48,7 +58,7 @@ part-fill-start : tie.Need-part-fill-start
 part-fill-start c = search needs
 
 part-fill-end : tie.Need-part-fill-end
-part-fill-end c = omega (arith, enough (c .before .before .before .before .before .before .before .before .before))
+part-fill-end c = omega (arith, enough (c .before .before .before .before .before .before .before .before) _ (c .words .ensures))
 
 fill-requires : tie.Need-fill-requires
 fill-requires c κs = search needs
@@ -65,12 +75,13 @@ same-length-2 c = search needs
 returns : tie.Need-returns
 returns c =
     let filled = c .before .before .before in
-    let written = filled .before .before .before .before .before .before in
+    let need = filled .before .before .words .ensures in
+    let written = filled .before .before .before .before .before in
     let searched = written .before .before .before .before .before in
     let load = searched .before .before .before .before .load .ensures in
-    let search = searched .search .ensures in
-    let zeros = cleared _ _ _ _ (enough searched) (rest-kept load search) (filled .fill .ensures) in
-    searched-routed (bytes searched) (start searched .pre) load search (written .write-sheet .ensures) zeros (c .numbers .ensures)
+    let zeros = cleared _ _ _ _ (enough searched _ need) (beyond searched _ need) (filled .fill .ensures) in
+    searched-routed (bytes searched) (start searched .pre) load (searched .search .ensures) (written .write-sheet .ensures)
+    (zeros ∙ ap (λ (k : ℕ). overFront (replicate k 0) (start searched .args .work .now)) need) (c .numbers .ensures)
 
 pub accepted-spec : {M : Type 1} → statement M
 accepted-spec =
@@ -79,9 +90,7 @@ accepted-spec =
     load-requires
     search-requires
     write-sheet-requires
-    mul-need
-    mul-need-2
-    add-need
+    words-requires
     sub-fill
     part-fill-start
     part-fill-end

@@ -43,7 +43,7 @@ refused-requires-2 c κs = search needs
 returns-2 : tie.Need-returns-2
 returns-2 c =
     let b = c .before .before .before .before .before .before .before .args .body .now in
-    c .refused2 .ensures ∙ sym (route-unfit b (omega arith) (λ e. omega arith))
+    c .refused2 .ensures ∙ sym (route-unfit b (λ e. omega arith))
 
 refused-requires-3 : tie.Need-refused-requires-3
 refused-requires-3 c κs = search needs

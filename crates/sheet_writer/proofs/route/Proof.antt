@@ -2,12 +2,12 @@
 use mathlib.Core.Path.{sym}
 use native.Mathlib.Omega.{arith}
 use borrow.Author.Needs.{needs}
-use Rattle.sheet_writer.proofs.Sheets.{goal-leads, few-arcs, fits-header, fits-places, route-written}
+use Rattle.sheet_writer.proofs.Sheets.{few-arcs, fits-header, fits-places, route-written}
 use Rattle.sheet_writer.proofs.route.Statement.{statement}
 use Rattle.sheet_writer.proofs.route.Tie as tie
 
 arcs-to-requires : tie.Need-arcs-to-requires
-arcs-to-requires c κs = goal-leads (c .before .before .pre)
+arcs-to-requires c κs = c .before .before .pre .leads
 
 cast-count : tie.Need-cast-count
 cast-count c = omega (arith, few-arcs (c .before .before .before .pre) (c .arcs-to .ensures))
@@ -43,8 +43,8 @@ returns c =
     let at-header = at-places .before .before .before .before in
     let at-arcs = at-header .before .before in
     let fits = at-arcs .before .before .before .pre in
-    let counted = at-arcs .arcs-to .ensures .count (fits .places) (fits .follows) in
-    route-written fits (sym counted) (at-header .put-header .ensures) (at-places .put-places .ensures .written (fits .places) (fits .follows))
+    let counted = at-arcs .arcs-to .ensures .count (fits .leads .places) (fits .leads .follows) in
+    route-written fits (sym counted) (at-header .put-header .ensures) (at-places .put-places .ensures .written (fits .leads .places) (fits .leads .follows))
 
 pub route-spec : {M : Type 1} → statement M
 route-spec =

@@ -1,14 +1,13 @@
 -- `fields::of` meets its contract. The loop's invariant, `Walked`: what is noted so far, with the records from byte `at` on, is what is
 -- noted of all records, and those records have their lengths. The measure is the bytes that are left. Assumes nothing.
-use mathlib.Core.Path.{_≡_, sym, _∙_}
-use mathlib.Core.Logic.{_⊎_, ⊎-elim}
-use Prim.Native.Nat.{ℕ, _-_}
-use native.Mathlib.Omega.{arith}
+use mathlib.Core.Path.{sym, _∙_}
+use Prim.Native.Nat.{_-_}
 use lib.ListN.{length}
 use borrow.Author.Needs.{needs}
 use Rattle.map.specs.Fields.{noted, Walked}
 use Rattle.map.proofs.FieldSteps.{walk-start, walk-checked, walk-fitting, walk-again}
-use Rattle.map.proofs.Records.{no-record, less-left}
+use Rattle.map.proofs.Records.{less-left}
+use Rattle.map.proofs.Reading.{none-left}
 use Rattle.map.proofs.fields.of.Statement.{statement}
 use Rattle.map.proofs.fields.of.Tie as tie
 
@@ -30,9 +29,7 @@ enum-known-r c = search needs
 returns : tie.Need-returns Inv-loop μ-loop
 returns c =
     walk-checked _ _ _ (c .before .before .before .before .pre) _ _ (c .before .before .loop .inv)
-    (no-record _ _ (c .before .before .loop .inv .inside) _ (c .before .read-at .ensures) λ r e.
-    let tag : _≡_ {A = ℕ} 0 1 ⊎ _≡_ {A = ℕ} 0 2 = rw e at (c .match .keys2) in
-    ⊎-elim (λ k. omega arith) (λ k. omega arith) tag)
+    (none-left _ _ (c .before .before .loop .inv .inside) _ (c .before .read-at .ensures) (c .match .keys2))
 
 with-record-requires : tie.Need-with-record-requires Inv-loop μ-loop
 with-record-requires c κs = walk-fitting _ _ _ _ _ (c .before .before .before .before .before .loop .inv) _ (sym (c .before .before .before .before .read-at .ensures) ∙ c .before .before .r .given .1) (c .before .before .before .before .before .before .before .pre .few)

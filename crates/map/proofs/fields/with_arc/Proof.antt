@@ -5,14 +5,17 @@ use Rattle.map.specs.Fields.{withArc}
 use Rattle.map.proofs.fields.with_arc.Statement.{statement}
 use Rattle.map.proofs.fields.with_arc.Tie as tie
 
+add-u16-at : tie.Need-add-u16-at
+add-u16-at c = search needs
+
 u16-at-requires : tie.Need-u16-at-requires
 u16-at-requires c κs = search needs
 
 index-requires : tie.Need-index-requires
 index-requires c κs = search needs
 
-add-u16-at : tie.Need-add-u16-at
-add-u16-at c = search needs
+add-u16-at-2 : tie.Need-add-u16-at-2
+add-u16-at-2 c = search needs
 
 u16-at-requires-2 : tie.Need-u16-at-requires-2
 u16-at-requires-2 c κs = search needs
@@ -20,8 +23,8 @@ u16-at-requires-2 c κs = search needs
 index-requires-2 : tie.Need-index-requires-2
 index-requires-2 c κs = search needs
 
-add-u16-at-2 : tie.Need-add-u16-at-2
-add-u16-at-2 c = search needs
+add-u16-at-3 : tie.Need-add-u16-at-3
+add-u16-at-3 c = search needs
 
 u16-at-requires-3 : tie.Need-u16-at-requires-3
 u16-at-requires-3 c κs = search needs
@@ -37,11 +40,12 @@ pub with-arc-spec : {M : Type 1} → statement M
 with-arc-spec =
     tie.close
     (tie.spec
+    add-u16-at
     u16-at-requires
     index-requires
-    add-u16-at
+    add-u16-at-2
     u16-at-requires-2
     index-requires-2
-    add-u16-at-2
+    add-u16-at-3
     u16-at-requires-3
     returns)

@@ -5,6 +5,9 @@ use Rattle.map.specs.Fields.{withEstimate}
 use Rattle.map.proofs.fields.with_estimate.Statement.{statement}
 use Rattle.map.proofs.fields.with_estimate.Tie as tie
 
+add-u16-at : tie.Need-add-u16-at
+add-u16-at c = search needs
+
 u16-at-requires : tie.Need-u16-at-requires
 u16-at-requires c κs = search needs
 
@@ -30,4 +33,6 @@ returns c =
 pub with-estimate-spec : {M : Type 1} → statement M
 with-estimate-spec =
     tie.close
-    (tie.spec u16-at-requires index-requires add-u32-at u32-at-requires mark-requires returns)
+    (tie.spec
+    add-u16-at
+    u16-at-requires index-requires add-u32-at u32-at-requires mark-requires returns)

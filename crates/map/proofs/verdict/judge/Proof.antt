@@ -1,6 +1,6 @@
 -- `verdict::judge` meets its contract: one law for each answer. Assumes nothing.
 use borrow.Author.Needs.{needs}
-use Rattle.map.proofs.MapLaws.{form-refused, formed}
+use Rattle.map.proofs.JudgeMap.{form-refused, formed}
 use Rattle.map.proofs.verdict.judge.Statement.{statement}
 use Rattle.map.proofs.verdict.judge.Tie as tie
 

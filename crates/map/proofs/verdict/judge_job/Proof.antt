@@ -1,15 +1,18 @@
 -- `verdict::judge_job` meets its contract: one law for each answer. Assumes nothing.
 use mathlib.Core.Path.{_∙_}
 use borrow.Author.Needs.{needs}
-use Rattle.map.proofs.JobLaws.{goals-refused, room-refused, accepted}
+use Rattle.map.proofs.JudgeJob.{goals-refused, room-refused, accepted}
 use Rattle.map.proofs.verdict.judge_job.Statement.{statement}
 use Rattle.map.proofs.verdict.judge_job.Tie as tie
+
+add-u16-at : tie.Need-add-u16-at
+add-u16-at c = search needs
 
 u16-at-requires : tie.Need-u16-at-requires
 u16-at-requires c κs = search needs
 
-add-u16-at : tie.Need-add-u16-at
-add-u16-at c = search needs
+add-u16-at-2 : tie.Need-add-u16-at-2
+add-u16-at-2 c = search needs
 
 u16-at-requires-2 : tie.Need-u16-at-requires-2
 u16-at-requires-2 c κs = search needs
@@ -17,8 +20,8 @@ u16-at-requires-2 c κs = search needs
 index-requires : tie.Need-index-requires
 index-requires c κs = search needs
 
-add-of : tie.Need-add-of
-add-of c = search needs
+add-goals-at : tie.Need-add-goals-at
+add-goals-at c = search needs
 
 of-requires : tie.Need-of-requires
 of-requires c κs = search needs
@@ -47,34 +50,38 @@ returns-2 c =
     room-refused _ _ _ _ (d .before .before .before .before .before .before .before .before .before .before .pre) _ (d .before .before .before .before .before .before .index .ensures .0 ∙ d .before .before .before .before .before .before .before .u16-at2 .ensures) _ (d .before .before .before .before .before .of .ensures) _
     (d .before .before .before .before .index2 .ensures .0 ∙ d .before .before .before .before .before .before .before .before .u16-at .ensures) _ (d .before .wrong-goals .ensures) _ (d .job-number .ensures) (c .before .before .if1 .left) _ _ _ (c .before .room-number .ensures) (c .if2 .taken)
 
-wide16-requires : tie.Need-wide16-requires
-wide16-requires c κs = search needs
-
 add-u32-at : tie.Need-add-u32-at
 add-u32-at c = search needs
 
 u32-at-requires : tie.Need-u32-at-requires
 u32-at-requires c κs = search needs
 
-add-t18 : tie.Need-add-t18
-add-t18 c = search needs
+wide16-requires : tie.Need-wide16-requires
+wide16-requires c κs = search needs
+
+new-requires : tie.Need-new-requires
+new-requires c κs = search needs
 
 returns-3 : tie.Need-returns-3
 returns-3 c =
-    let d = c .before .before .before .before .before in
+    let job = c .new .ensures in
+    let d = c .before .before .before .before .before .before in
     accepted _ _ _ _ (d .before .before .before .before .before .before .before .before .before .before .pre) _ (d .before .before .before .before .before .before .index .ensures .0 ∙ d .before .before .before .before .before .before .before .u16-at2 .ensures) _ (d .before .before .before .before .before .of .ensures) _
-    (d .before .before .before .before .index2 .ensures .0 ∙ d .before .before .before .before .before .before .before .before .u16-at .ensures) _ (d .before .wrong-goals .ensures) _ (d .job-number .ensures) (c .before .before .before .before .if1 .left) _ _ _ (c .before .before .before .room-number .ensures) (c .before .before .if2 .left) _ _
-    (c .before .wide16 .ensures .0 ∙ d .before .before .before .before .before .before .before .before .u16-at .ensures) (c .u32-at .ensures)
+    (d .before .before .before .before .index2 .ensures .0 ∙ d .before .before .before .before .before .before .before .before .u16-at .ensures) _ (d .before .wrong-goals .ensures) _ (d .job-number .ensures) (c .before .before .before .before .before .if1 .left) _ _ _ (c .before .before .before .before .room-number .ensures) (c .before .before .before .if2 .left) _
+    (job .0)
+    (job .1 ∙ c .before .wide16 .ensures .0 ∙ d .before .before .before .before .before .before .before .before .u16-at .ensures)
+    (job .2 ∙ c .before .before .u32-at .ensures) (job .3) (job .4)
 
 pub judge-job-spec : {M : Type 1} → statement M
 judge-job-spec =
     tie.close
     (tie.spec
-    u16-at-requires
     add-u16-at
+    u16-at-requires
+    add-u16-at-2
     u16-at-requires-2
     index-requires
-    add-of
+    add-goals-at
     of-requires
     index-requires-2
     wrong-goals-requires
@@ -82,8 +89,8 @@ judge-job-spec =
     returns
     room-number-requires
     returns-2
-    wide16-requires
     add-u32-at
     u32-at-requires
-    add-t18
+    wide16-requires
+    new-requires
     returns-3)

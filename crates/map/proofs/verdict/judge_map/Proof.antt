@@ -3,7 +3,7 @@ use mathlib.Core.Path.{sym, refl, _∙_}
 use native.Mathlib.Omega.{arith}
 use lib.ListN.{replicate}
 use borrow.Author.Needs.{needs}
-use Rattle.map.proofs.MapLaws.{head, not-broken, size-refused, Sized, sized, zeros-clear, fields-ready, fields-refused, job-refused, one-job}
+use Rattle.map.proofs.JudgeMap.{head, not-broken, size-refused, Sized, sized, zeros-clear, fields-ready, fields-refused, job-refused, one-job}
 use Rattle.map.proofs.verdict.judge_map.Statement.{statement}
 use Rattle.map.proofs.verdict.judge_map.Tie as tie
 

@@ -4,30 +4,24 @@ use borrow.Author.Needs.{needs}
 use Rattle.map.proofs.verdict.room_number.Statement.{statement}
 use Rattle.map.proofs.verdict.room_number.Tie as tie
 
-mul-if1 : tie.Need-mul-if1
-mul-if1 c = search needs
-
-mul-if1-2 : tie.Need-mul-if1-2
-mul-if1-2 c = search needs
-
-add-if1 : tie.Need-add-if1
-add-if1 c = search needs
+words-requires : tie.Need-words-requires
+words-requires c κs = search needs
 
 returns : tie.Need-returns
-returns c = simp (lt-ltb _ _ (c .if1 .taken))
+returns c = rw (← c .before .words .ensures) (simp (lt-ltb _ _ (c .if1 .taken)))
 
-mul-if2 : tie.Need-mul-if2
-mul-if2 c = search needs
-
-add-if2 : tie.Need-add-if2
-add-if2 c = search needs
+bytes-requires : tie.Need-bytes-requires
+bytes-requires c κs = search needs
 
 returns-2 : tie.Need-returns-2
-returns-2 c = simp (le-ltb _ _ (c .before .before .if1 .left), lt-ltb _ _ (c .if2 .taken))
+returns-2 c =
+    let words = c .before .before .before .words .ensures in
+    rw (← words, ← c .before .bytes .ensures) (simp (le-ltb _ _ (c .before .before .if1 .left), lt-ltb _ _ (c .if2 .taken)))
 
 returns-3 : tie.Need-returns-3
-returns-3 c = simp (le-ltb _ _ (c .before .before .if1 .left), le-ltb _ _ (c .if2 .left))
+returns-3 c =
+    let words = c .before .before .before .words .ensures in
+    rw (← words, ← c .before .bytes .ensures) (simp (le-ltb _ _ (c .before .before .if1 .left), le-ltb _ _ (c .if2 .left)))
 
 pub room-number-spec : {M : Type 1} → statement M
-room-number-spec =
-    tie.close (tie.spec mul-if1 mul-if1-2 add-if1 returns mul-if2 add-if2 returns-2 returns-3)
+room-number-spec = tie.close (tie.spec words-requires returns bytes-requires returns-2 returns-3)

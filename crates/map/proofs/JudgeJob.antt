@@ -15,8 +15,8 @@ use Rattle.map.specs.declared.goals.Goals.{Goals}
 use Rattle.map.specs.Judge.{States, Judged}
 use Rattle.map.specs.Goals.{estimatedAt, Checked}
 use Rattle.map.specs.Verdict.{jobNumber, roomNumber, jobOf, goalsWrong, OneJob}
-use Rattle.map.proofs.Chain.{given, not-given}
-use Rattle.map.proofs.MapLaws.{refused}
+use Rattle.map.proofs.Groups.{given, not-given}
+use Rattle.map.proofs.JudgeMap.{refused}
 use Rattle.map.proofs.Parts.{u16-drop, u32-drop, u16s-drop}
 use Rattle.map.proofs.RecordKinds.{any-same}
 use Rattle.model.specs.Bytes.{u16, u32, u16s}
@@ -28,9 +28,9 @@ use Rattle.model.proofs.Bytes.{u16s-length}
 use Rattle.model.proofs.Lists.{or-false, any-false}
 
 module _ (input : List ℕ) (map : Map) (at : ℕ) (marks : List ℕ) (j : OneJob input map at marks) where
-  start-at : u16 input at ≡ startOf (frame input .records)
+  start-at : u16 input (at + 0) ≡ startOf (frame input .records)
   unfolding startOf
-  start-at = sym (u16-drop at input 0 at (omega arith)) ∙ ap (λ (b : List ℕ). u16 b 0) (j .body)
+  start-at = sym (u16-drop at input 0 (at + 0) refl) ∙ ap (λ (b : List ℕ). u16 b 0) (j .body)
 
   allowance-at : u32 input (at + 2) ≡ allowanceOf (frame input .records)
   unfolding allowanceOf
@@ -51,7 +51,7 @@ module _ (input : List ℕ) (map : Map) (at : ℕ) (marks : List ℕ) (j : OneJo
     gs = u16s k input (at + 8)
 
     -- 11 to 13
-    module _ (g : Goals) (c : Checked gs (map .places) marks g) (start : ℕ) (is-start : start ≡ u16 input at) (w : Bool)
+    module _ (g : Goals) (c : Checked gs (map .places) marks g) (start : ℕ) (is-start : start ≡ u16 input (at + 0)) (w : Bool)
         (is-wrong : w ≡ goalsWrong k (g .falls)) where
       outside-same : (leb (map .places) start || g .outside) ≡ jobOutsideMap (frame input .records)
       unfolding jobOutsideMap
@@ -95,18 +95,17 @@ module _ (input : List ℕ) (map : Map) (at : ℕ) (marks : List ℕ) (j : OneJo
           pub room-refused : r ≢ 0 → Judged input words bytes (Refused r)
           room-refused h = refused input words bytes r room-same h
 
-          pub accepted : r ≡ 0 → (s a : ℕ) → s ≡ u16 input at → a ≡ u32 input (at + 2)
-              → Judged input words bytes (Accepted (record { map = map; start = s; allowance = a; goals = k; «goals_at» = at + 8 }))
-          accepted fits s a is-stated is-allowance =
-              let job : Job = record { map = map; start = s; allowance = a; goals = k; «goals_at» = at + 8 } in
+          pub accepted : r ≡ 0 → (job : Job) → job .map ≡ map → job .start ≡ u16 input (at + 0) → job .allowance ≡ u32 input (at + 2)
+              → job .goals ≡ k → job .«goals_at» ≡ at + 8 → Judged input words bytes (Accepted job)
+          accepted fits job is-map is-stated is-allowance is-count is-at =
               let states : States input job =
               record {
-                places = j .places;
-                arcs = j .arcs;
+                places = ap (λ (m : Map). m .places) is-map ∙ j .places;
+                arcs = ap (λ (m : Map). m .arcs) is-map ∙ j .arcs;
                 start = is-stated ∙ start-at;
                 allowance = is-allowance ∙ allowance-at;
                 goals-end = omega (arith, j .ends, count);
-                goals = goals-at;
+                goals = rw (is-count, is-at) goals-at;
               } in
               record {
                 number = sym (room-same ∙ fits);

@@ -16,7 +16,7 @@ use Rattle.map.specs.Judge.{Judged}
 use Rattle.map.specs.Survey.{lastBody, Surveyed}
 use Rattle.map.specs.Fields.{Ready, Checked}
 use Rattle.map.specs.Verdict.{formNumber, fieldNumber, firstOf, formOf, fieldsOf, fromJob, fromFields, fromSize, sizeWrong, Formed, OneJob}
-use Rattle.map.proofs.Chain.{given, not-given, refusal-groups}
+use Rattle.map.proofs.Groups.{given, not-given, refusal-groups}
 use Rattle.map.proofs.HeadAndJob.{HeadFirst, head-first, one-last, last-fits}
 use Rattle.map.proofs.Parts.{u16-drop}
 use Rattle.model.specs.Bytes.{u16}
