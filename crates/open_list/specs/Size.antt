@@ -10,10 +10,14 @@ pub record Nodes (m : ℕ) : Type 0 where
   pub form : m ≡ 8 * rows + 1
   pub few : m ≤ 65536
 
+-- two words for each of m nodes, and one for each of their 7 * m + 1 keys
+abbrev pub wordsOf : ℕ → ℕ
+wordsOf m = 9 * m + 1
+
 -- what `clear` asks: words for m nodes and their 7 * m + 1 keys
 pub record Shape (m : ℕ) (words : List ℕ) : Type 0 where
   pub nodes : Nodes m
-  pub len : length words ≡ 9 * m + 1
+  pub len : length words ≡ wordsOf m
 
 -- what `nodes` asks
 pub record Places (places : ℕ) : Type 0 where
@@ -24,4 +28,4 @@ pub record Places (places : ℕ) : Type 0 where
 pub record Enough (places m : ℕ) : Type 0 where
   pub nodes : Nodes m
   pub keys : places ≤ 7 * m + 1
-  pub words : 9 * m + 1 ≤ 10 * places
+  pub words : wordsOf m ≤ 10 * places

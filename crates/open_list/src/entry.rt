@@ -3,7 +3,9 @@
 ghost use mathlib.Core.Path.{_≡_};
 ghost use Prim.Native.Nat.{_<_, min};
 ghost use Rattle.open_list.specs.Entry.{IsEntry, IsWord, placeOf, keyOf, wordEnd};
-use super::KEY;
+
+// What one more of a key adds to an entry.
+const KEY: u64 = 4294967296;
 
 // A place as it stands in a word. Callers learn that it is below 2^32.
 pub fn wide(word: u32) -> usize
@@ -19,13 +21,13 @@ pub fn pair(place: usize, key: u32) -> u64
     (key as u64) * KEY + place as u64
 }
 
-pub fn place(entry: u64) -> u32
+pub fn place_of(entry: u64) -> u32
     ensures { λ r. ⌜ r ≡ placeOf entry ⌝ }
 {
     (entry % KEY) as u32
 }
 
-pub fn key(entry: u64) -> u32
+pub fn key_of(entry: u64) -> u32
     ensures { λ r. ⌜ r ≡ keyOf entry ⌝ }
 {
     (entry / KEY) as u32

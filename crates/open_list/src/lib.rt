@@ -11,27 +11,35 @@
 ghost use mathlib.Core.Path.{_≡_};
 ghost use Rattle.open_list.specs.Entry.{placeOf, keyOf, noKey};
 ghost use Rattle.open_list.specs.Keys.{OpenList, Least, Lowers, Closes, Put, Cleared, keysOf, emptyHand};
-ghost use Rattle.open_list.specs.Size.{Places, Enough, Shape};
+ghost use Rattle.open_list.specs.Size.{Places, Nodes, Enough, wordsOf, Shape};
 
 mod entry;
 mod tree;
 
+// What `least` gives as one number: the key, and the place.
+pub use entry::key_of;
+pub use entry::place_of;
+
 // The key of a place that is not open.
 pub const NONE: u32 = 0xFFFF_FFFF;
-
-// What one more of a key adds to an entry, key * 2^32 + place.
-pub const KEY: u64 = 4294967296;
 
 // The hand with nothing in it: no key, and a place beyond all.
 const EMPTY: u64 = 18446744073709551615;
 
-// How many nodes the tree needs for so many places: one node has 8 keys, and each 8 nodes more have 56 keys more. The list then needs
-// 9 * nodes + 1 words.
+// How many nodes the tree needs for so many places: one node has 8 keys, and each 8 nodes more have 56 keys more.
 pub fn nodes(places: usize) -> usize
     requires { ⌜ Places places ⌝ }
     ensures { λ r. ⌜ Enough places r ⌝ }
 {
     8 * ((places + 47) / 56) + 1
+}
+
+// How many words the list needs.
+pub fn words(nodes: usize) -> usize
+    requires { ⌜ Nodes nodes ⌝ }
+    ensures { λ r. ⌜ r ≡ wordsOf nodes ⌝ }
+{
+    9 * nodes + 1
 }
 
 // Nothing in hand.
@@ -55,11 +63,11 @@ pub fn lower(words: &mut [u32], m: usize, hand: u64, place: usize, key: u32) -> 
     ensures { λ r. ⌜ Put m place key hand (now (words .entry)) r (now (words .exit)) ⌝ }
 {
     let x = entry::pair(place, key);
-    if entry::wide(entry::place(hand)) == place {
+    if entry::wide(entry::place_of(hand)) == place {
         return x;
     }
     // The empty hand takes what comes in first of all.
-    if entry::key(hand) == NONE {
+    if entry::key_of(hand) == NONE {
         let root = tree::least(words, m);
         if x < root {
             let k = tree::key(words, m, place);
@@ -77,7 +85,7 @@ pub fn close(words: &mut [u32], m: usize, hand: u64, place: usize) -> u64
     requires { ⌜ Closes m hand place (now words) ⌝ }
     ensures { λ r. ⌜ Put m place noKey hand (now (words .entry)) r (now (words .exit)) ⌝ }
 {
-    if entry::wide(entry::place(hand)) == place {
+    if entry::wide(entry::place_of(hand)) == place {
         return empty();
     }
     tree::close(words, m, place);

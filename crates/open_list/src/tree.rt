@@ -77,8 +77,8 @@ fn store(words: &mut [u32], i: usize, x: u64)
     ensures { λ _. ⌜ now (words .exit) ≡ stored (now (words .entry)) i x ⌝ }
 {
     let w = i + i;
-    words[w] = entry::place(x);
-    words[w + 1] = entry::key(x);
+    words[w] = entry::place_of(x);
+    words[w + 1] = entry::key_of(x);
 }
 
 // No place has a key.

@@ -68,15 +68,15 @@ endingOf p a = searched p (search p a) (search p a .spent)
 searched-cleared : {n start allowance : ℕ} {loaded work : List ℕ} (v : Verdict) → Searched n start allowance loaded work v
     → (words : ℕ) (work₀ : List ℕ) → workAfter (endingOf (problemAt n start loaded) allowance) words work₀ ≡ overFront (replicate words 0) work₀
 unfolding workAfter
-searched-cleared (Spent f q) s words work₀ = rw (s .means)
+searched-cleared (Spent f x q) s words work₀ = rw (s .means)
 searched-cleared (NoRoute l x q) s words work₀ = rw (s .means)
 searched-cleared (verdict.Routed c g l x q) s words work₀ = rw (s .means .1)
 
 -- the numbers of a verdict are those of its ending
 searched-numbers : {n start allowance : ℕ} {loaded work : List ℕ} (v : Verdict) → Searched n start allowance loaded work v
-    → numbersOf v allowance (length (sheetOf (endingOf (problemAt n start loaded) allowance))) ≡ model.answerOf (endingOf (problemAt n start loaded) allowance)
+    → numbersOf v (length (sheetOf (endingOf (problemAt n start loaded) allowance))) ≡ model.answerOf (endingOf (problemAt n start loaded) allowance)
 unfolding model.answerOf sheetOf
-searched-numbers (Spent f q) s = rw (s .means)
+searched-numbers (Spent f x q) s = rw (s .means)
 searched-numbers (NoRoute l x q) s = rw (s .means)
 searched-numbers (verdict.Routed c g l x q) s = rw (s .means .1)
 
@@ -84,7 +84,7 @@ searched-numbers (verdict.Routed c g l x q) s = rw (s .means .1)
 searched-writable : {n start allowance : ℕ} {loaded work : List ℕ} (v : Verdict) (sheet : List ℕ) → Valid (problemAt n start loaded)
     → Searched n start allowance loaded work v → endsAt n ≤ length work → 10 + 2 * n ≤ length sheet → Writable n start v work sheet
 unfolding problemAt
-searched-writable (Spent f q) sheet ok s words room = tt
+searched-writable (Spent f x q) sheet ok s words room = tt
 searched-writable (NoRoute l x q) sheet ok s words room =
     record { room = omega arith }
 searched-writable {n} {start} {allowance} {loaded = loaded} (verdict.Routed c g l x q) sheet ok s words room =
@@ -110,16 +110,16 @@ module _ {input work₀ sheet₀ loaded work : List ℕ} {j : Job} {v : Verdict}
 
   -- an accepted input: the verdict's sheet and numbers, and the front of the work area zero
   pub searched-routed : {written : ℕ} {sheet after : List ℕ} {r : Answer}
-      → Written (j .map .places) (j .start) (j .allowance) v work sheet₀ written sheet
+      → Written (j .map .places) (j .start) v work sheet₀ written sheet
       → after ≡ overFront (replicate (16 * j .map .places + 2 * j .map .arcs) 0) work₀
-      → answerOf r ≡ numbersOf v (j .allowance) written
+      → answerOf r ≡ numbersOf v written
       → Routed input work₀ sheet₀ r after sheet
   unfolding route workWords
   searched-routed {written} {sheet} {r = r} w clear is =
       let e = endingOf (problemAt (j .map .places) (j .start) loaded) (j .allowance) in
-      let over = w .over-front loaded e (found .means) in
+      let over = w .over-front e (found .means) in
       let numbers : answerOf r ≡ model.answerOf e =
-      is ∙ ap (numbersOf v (j .allowance)) (w .sheet-bytes loaded e (found .means)) ∙ searched-numbers v found in
+      is ∙ ap (numbersOf v) (w .sheet-bytes e (found .means)) ∙ searched-numbers v found in
       let zeros = searched-cleared v found (workWords (frame input .records)) work₀ in
       record { result = rw (loaded-ending, zeros, ← (s .states .places), ← (s .states .arcs), ← clear, ← over, ← numbers) }
 

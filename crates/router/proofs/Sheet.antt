@@ -10,20 +10,20 @@ use Rattle.router.specs.Steps.{Written}
 
 module _ {v : Verdict} {n start : ℕ} {work sheet₀ : List ℕ} where
   -- where the allowance is spent no byte is written
-  pub written-nothing : {allowance floor queries : ℕ} → v ≡ Spent floor queries → Written n start allowance v work sheet₀ 0 sheet₀
+  pub written-nothing : {floor expansions queries : ℕ} → v ≡ Spent floor expansions queries → Written n start v work sheet₀ 0 sheet₀
   unfolding sheetOf overFront
-  written-nothing is = rw is (record { sheet-bytes = λ w₀ e m. rw m; over-front = λ w₀ e m. rw m })
+  written-nothing is = rw is (record { sheet-bytes = λ e m. rw m; over-front = λ e m. rw m })
 
-  pub written-no-route : {allowance limit expansions queries bytes : ℕ} {sheet : List ℕ} → v ≡ NoRoute limit expansions queries
-      → NoRouteWritten start sheet₀ sheet bytes → Written n start allowance v work sheet₀ bytes sheet
+  pub written-no-route : {limit expansions queries bytes : ℕ} {sheet : List ℕ} → v ≡ NoRoute limit expansions queries
+      → NoRouteWritten start sheet₀ sheet bytes → Written n start v work sheet₀ bytes sheet
   unfolding sheetOf
-  written-no-route is h = rw is (record { sheet-bytes = λ w₀ e m. rw m (h .bytes); over-front = λ w₀ e m. rw m (h .written) })
+  written-no-route is h = rw is (record { sheet-bytes = λ e m. rw m (h .bytes); over-front = λ e m. rw m (h .written) })
 
-  pub written-route : {allowance cost goal limit expansions queries bytes : ℕ} {sheet : List ℕ} → v ≡ Routed cost goal limit expansions queries
-      → RouteWritten n goal cost work sheet₀ sheet bytes → Written n start allowance v work sheet₀ bytes sheet
+  pub written-route : {cost goal limit expansions queries bytes : ℕ} {sheet : List ℕ} → v ≡ Routed cost goal limit expansions queries
+      → RouteWritten n goal cost work sheet₀ sheet bytes → Written n start v work sheet₀ bytes sheet
   unfolding sheetOf
   written-route is h =
       rw is (record {
-        sheet-bytes = λ w₀ e (places, m, follows). rw m (h .bytes places follows);
-        over-front = λ w₀ e (places, m, follows). rw m (h .written places follows);
+        sheet-bytes = λ e (places, m, follows). rw m (h .bytes places follows);
+        over-front = λ e (places, m, follows). rw m (h .written places follows);
       })

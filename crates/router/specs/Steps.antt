@@ -20,17 +20,17 @@ pub record Stated (input : List ℕ) (j : Job) (work sheet : List ℕ) : Type 0 
 
 -- what the writer asks for the sheet of a verdict, if it has one
 abbrev pub Writable : (n start : ℕ) → Verdict → (work sheet : List ℕ) → Type 0
-Writable n start (Spent floor queries) work sheet = Unit {0}
+Writable n start (Spent floor expansions queries) work sheet = Unit {0}
 Writable n start (NoRoute limit expansions queries) work sheet = FitsNoRoute sheet
 Writable n start (Routed cost goal limit expansions queries) work sheet = FitsRoute n goal work sheet
 
 -- the sheet is that of the ending which the verdict means; the bytes beyond it are as before
-pub record Written (n start allowance : ℕ) (v : Verdict) (work sheet₀ : List ℕ) (bytes : ℕ) (sheet : List ℕ) : Type 0 where
-  pub sheet-bytes : (work₀ : List ℕ) (e : Ending) → Means n start allowance work₀ work v e → bytes ≡ length (sheetOf e)
-  pub over-front : (work₀ : List ℕ) (e : Ending) → Means n start allowance work₀ work v e → sheet ≡ overFront (sheetOf e) sheet₀
+pub record Written (n start : ℕ) (v : Verdict) (work sheet₀ : List ℕ) (bytes : ℕ) (sheet : List ℕ) : Type 0 where
+  pub sheet-bytes : (e : Ending) → Means n start work v e → bytes ≡ length (sheetOf e)
+  pub over-front : (e : Ending) → Means n start work v e → sheet ≡ overFront (sheetOf e) sheet₀
 
--- the seven numbers of a verdict under an allowance, whose sheet has so many bytes
-abbrev pub numbersOf : Verdict → ℕ → ℕ → model.Answer
-numbersOf (Spent floor queries) allowance bytes = answer 16 0 0 floor allowance queries bytes
-numbersOf (NoRoute limit expansions queries) allowance bytes = answer 17 0 limit 0 expansions queries bytes
-numbersOf (Routed cost goal limit expansions queries) allowance bytes = answer 0 cost limit 0 expansions queries bytes
+-- the seven numbers of a verdict whose sheet has so many bytes
+abbrev pub numbersOf : Verdict → ℕ → model.Answer
+numbersOf (Spent floor expansions queries) bytes = answer 16 0 0 floor expansions queries bytes
+numbersOf (NoRoute limit expansions queries) bytes = answer 17 0 limit 0 expansions queries bytes
+numbersOf (Routed cost goal limit expansions queries) bytes = answer 0 cost limit 0 expansions queries bytes

@@ -30,10 +30,10 @@ const NO_ROUTE: u32 = 17;
 // Writes the sheet of a verdict, if it has one, and gives its bytes.
 fn write_sheet(verdict: Verdict, job: Job, work: &[u32], sheet: &mut [u8]) -> u32
     requires { ⌜ Writable (job .map .places) (job .start) verdict (now work) (now sheet) ⌝ }
-    ensures { λ r. ⌜ Written (job .map .places) (job .start) (job .allowance) verdict (now (work .entry)) (now (sheet .entry)) r (now (sheet .exit)) ⌝ }
+    ensures { λ r. ⌜ Written (job .map .places) (job .start) verdict (now (work .entry)) (now (sheet .entry)) r (now (sheet .exit)) ⌝ }
 {
     match verdict {
-        Verdict::Spent(_, _) => 0,
+        Verdict::Spent(_, _, _) => 0,
         Verdict::NoRoute(_, _, _) => sheet_writer::no_route(sheet, job.start),
         Verdict::Routed(cost, goal, _, _, _) => {
             let map = job.map;
@@ -42,17 +42,17 @@ fn write_sheet(verdict: Verdict, job: Job, work: &[u32], sheet: &mut [u8]) -> u3
     }
 }
 
-// The numbers of a verdict. Where the allowance is spent, it is the expansions.
-fn numbers(verdict: Verdict, allowance: u32, bytes: u32) -> Answer
-    ensures { λ r. ⌜ answerOf r ≡ numbersOf verdict allowance bytes ⌝ }
+// The numbers of a verdict.
+fn numbers(verdict: Verdict, bytes: u32) -> Answer
+    ensures { λ r. ⌜ answerOf r ≡ numbersOf verdict bytes ⌝ }
 {
     match verdict {
-        Verdict::Spent(floor, queries) => Answer {
+        Verdict::Spent(floor, expansions, queries) => Answer {
             number: SPENT,
             cost: 0,
             limit: 0,
             floor,
-            expansions: allowance,
+            expansions,
             queries,
             sheet_bytes: bytes,
         },
@@ -102,7 +102,7 @@ fn accepted(input: &[u8], job: Job, work: &mut [u32], sheet: &mut [u8]) -> Answe
     let bytes = write_sheet(verdict, job, work, sheet);
     let need = map.words();
     area::fill(&mut work[0..need], 0);
-    numbers(verdict, job.allowance, bytes)
+    numbers(verdict, bytes)
 }
 
 pub fn route(input: &[u8], work: &mut [u32], sheet: &mut [u8]) -> Answer

@@ -45,6 +45,7 @@ answered-same n start limit budget left w₀ w₁ w r same a =
     record {
       same-map = a .same-map ∙ same;
       spent = rw p at (a .spent);
+      cut = a .cut;
       lasts = rw p at (a .lasts);
       outcome = rw p at (a .outcome);
       count = rw p at (a .count);
@@ -87,6 +88,7 @@ module _ {n m arcs start limit budget left : ℕ} {w₀ : List ℕ} {hand : ℕ}
       record {
         same-map = s .same-map;
         spent = λ t. absurd (not-both t (a .lasts));
+        cut = λ t. absurd (not-both t (a .lasts));
         lasts = λ t. omega (arith, cost, s .lasts);
         outcome = λ t. outcome ∙ sym (ends (nextLimit p (table p limit)) refl (result .1 .0) (result .1 .1));
         count = λ t. a .count-is ∙ sym cost;
@@ -137,6 +139,7 @@ module _ {n m arcs start limit budget left : ℕ} {w₀ : List ℕ} {hand : ℕ}
         record {
           same-map = s .same-map;
           spent = λ t. absurd (false≢true t);
+          cut = λ t. absurd (false≢true t);
           lasts = λ t. omega (arith, cost, s .lasts);
           outcome = λ t. sym (result .0);
           count = λ t. sym cost;
@@ -157,6 +160,7 @@ module _ {n m arcs start limit budget left : ℕ} {w₀ : List ℕ} {hand : ℕ}
         record {
           same-map = s .same-map;
           spent = λ t. absurd (false≢true t);
+          cut = λ t. absurd (false≢true t);
           lasts = λ t. omega (arith, result .1, s .lasts);
           outcome = λ t. sym (result .0);
           count = λ t. b ∙ sym (result .1);
@@ -171,6 +175,7 @@ module _ {n m arcs start limit budget left : ℕ} {w₀ : List ℕ} {hand : ℕ}
         record {
           same-map = s .same-map;
           spent = λ t. spent-cost p valid limit label settled front v d budget left first no-goal (counted ∙ l) (omega (arith, s .in-budget));
+          cut = λ t. l;
           lasts = λ t. absurd (false≢true (sym t));
           outcome = λ t. absurd (false≢true (sym t));
           count = λ t. absurd (false≢true (sym t));

@@ -12,5 +12,6 @@ pub mod Searches
 pub mod Expansions
 pub mod Answers
 pub mod FoundRoutes
+pub mod RoundAfter
 pub mod Underway
 pub mod RoundTurns

@@ -1,7 +1,7 @@
 -- The regions of labels and of the open list: what a store, and a part that has come back, do to labels, keys and map. Assumes nothing.
 use mathlib.Core.Path.{_≡_, sym, ap, _∙_}
 use mathlib.Core.List.{List}
-use Prim.Native.Nat.{ℕ, _+_, _-_, _*_, _≤_, _<_}
+use Prim.Native.Nat.{ℕ, _+_, _-_, _≤_, _<_}
 use native.Mathlib.Omega.{arith}
 use lib.ListN.{length, getD, set, drop, replicate, length-set, getD-replicate}
 use lib.Seq.{drop-set-lt, getD-set-same, getD-set-other}
@@ -10,18 +10,19 @@ use Rattle.area.specs.Part.{part}
 use Rattle.area.proofs.Parts.{part-length, part-at, part-set-low, part-back, part-back-low, drop-back, back-length, back-at}
 use Rattle.open_list.specs.Entry.{noKey}
 use Rattle.open_list.specs.Keys.{Lowers, Put, Cleared}
+use Rattle.open_list.specs.Size.{wordsOf}
 use Rattle.map.specs.Layout.{endsAt}
 use Rattle.search.specs.Area.{openWords, keys}
 use Rattle.search.specs.State.{Room, Blank, Arrives, Arrived}
 
 -- where the open list ends
 abbrev pub openEnd : ℕ → ℕ → ℕ
-openEnd n m = n + 9 * m + 1
+openEnd n m = n + wordsOf m
 
 -- the open list is what is lent of it
 pub open-part : (n m : ℕ) (w : List ℕ) → openWords n m w ≡ part n (openEnd n m) w
 unfolding openWords part
-open-part n m w = let q : openEnd n m - n ≡ 9 * m + 1 = omega arith in rw q
+open-part n m w = let q : openEnd n m - n ≡ wordsOf m = omega arith in rw q
 
 pub room-ends : {n m : ℕ} {w : List ℕ} → Room n m w → (openEnd n m ≤ endsAt n) × (endsAt n ≤ length w)
 room-ends r = (omega (arith, r .enough .words), omega arith)

@@ -1,6 +1,6 @@
 -- A turn of the rounds: from the area and the round's record as a query begins to the next turn or the end. Assumes nothing.
 use mathlib.Core.Path.{_≡_, refl, sym, ap, ap₂, _∙_}
-use mathlib.Core.Bool.{true, false}
+use mathlib.Core.Bool.{Bool, true, false}
 use mathlib.Core.List.{List}
 use mathlib.Core.Option.{some}
 use Prim.Native.Nat.{ℕ, _+_, _-_, _*_, _^_, _≤_, _<_}
@@ -10,19 +10,20 @@ use borrow.Author.Tests.{lt-ltb}
 use Rattle.map.specs.Layout.{endsAt, estimatesAt, problemAt, Holds}
 use Rattle.model.specs.Limits.{maxPlaces}
 use Rattle.model.specs.Problem.{Problem, Valid}
-use Rattle.model.specs.Costs.{costAt, table}
+use Rattle.model.specs.Costs.{table}
 use Rattle.model.specs.Query as model
 use Rattle.model.specs.Query.{Key, query}
+use Rattle.model.specs.Rounds as rounds
 use Rattle.model.specs.Rounds.{firstRound, limitOf, ask, next, trace, search}
 use Rattle.model.specs.Routes.{routeTo}
 use Rattle.model.specs.Answer.{routed, searched}
 use Rattle.model.proofs.Laws as laws
-use Rattle.search.specs.Area.{labels, Follows}
+use Rattle.search.specs.Area.{Follows}
 use Rattle.search.specs.Query.{outcomeOf, Askable, Answered, FoundAt}
 use Rattle.search.specs.Rounds.{highOf, roundOf, Searched}
-use Rattle.search.specs.Underway.{Settled, Arrived, Parented, Underway, Searching}
+use Rattle.search.specs.Underway.{RoundAfter, GoalLabelled, Parented, Underway, BetweenQueries}
 use Rattle.search.specs.declared.Asked.{Asked}
-use Rattle.search.specs.declared.High.the-variants.{Unset, At}
+use Rattle.search.specs.declared.High.the-variants.{Unset}
 use Rattle.search.specs.declared.Outcome.{Outcome}
 use Rattle.search.specs.declared.Outcome.the-variants.{Ended, Over, Found, None}
 use Rattle.search.specs.declared.Round.{Round}
@@ -43,14 +44,14 @@ pub record Sizes (n start : ℕ) (w : List ℕ) : Type 0 where
   pub estimate-in : estimatesAt n + start < length w
 
 -- A query has ended: it began in the round, with total t after q queries, in the area w of a search that began with w₀, and left w′ and r.
-pub record Turn (n m start a : ℕ) (w₀ w : List ℕ) (round : Round) (t q limit : ℕ) (w′ : List ℕ) (r : Asked) : Type 0 where
-  pub holds : Holds n m start w₀
-  pub searching : Searching n start a w₀ w round t q
+pub record Turn (n arcs start a : ℕ) (w₀ w : List ℕ) (round : Round) (t q limit : ℕ) (w′ : List ℕ) (r : Asked) : Type 0 where
+  pub holds : Holds n arcs start w₀
+  pub between : BetweenQueries n start a w₀ w round t q
   pub limit-is : limit ≡ limitIn round
   pub answered : Answered n start limit (round .budget) (a - t) w w′ r
   pub same-length : length w′ ≡ length w
 
-module _ {n m start : ℕ} {w₀ : List ℕ} (holds : Holds n m start w₀) where
+module _ {n arcs start : ℕ} {w₀ : List ℕ} (holds : Holds n arcs start w₀) where
   pub sizes : Sizes n start w₀
   unfolding problemAt
   sizes =
@@ -63,7 +64,7 @@ module _ {n m start : ℕ} {w₀ : List ℕ} (holds : Holds n m start w₀) wher
 
   -- the search begins in the first round
   pub begins : (a low : ℕ) (o : Outcome) → low ≡ getD w₀ (estimatesAt n + start) 0
-      → Searching n start a w₀ w₀ (record { low = low; high = Unset; budget = 1; outcome = o }) 0 0
+      → BetweenQueries n start a w₀ w₀ (record { low = low; high = Unset; budget = 1; outcome = o }) 0 0
   unfolding firstRound
   begins a low o e =
       record {
@@ -72,7 +73,7 @@ module _ {n m start : ℕ} {w₀ : List ℕ} (holds : Holds n m start w₀) wher
         underway = rw (e, first-low) (underway.begins (problemAt n start w₀) (holds .valid) a (outcomeOf o));
       }
 
-  module _ {a : ℕ} {w : List ℕ} {round : Round} {t q : ℕ} (s : Searching n start a w₀ w round t q) where
+  module _ {a : ℕ} {w : List ℕ} {round : Round} {t q : ℕ} (s : BetweenQueries n start a w₀ w round t q) where
     abbrev p : Problem
     p = problemAt n start w₀
 
@@ -83,10 +84,10 @@ module _ {n m start : ℕ} {w₀ : List ℕ} (holds : Holds n m start w₀) wher
     unfolding problemAt
     start-low = underway.start-within-asked p (holds .valid) a (s .underway)
 
-    pub askable : (limit : ℕ) → limit ≡ limitIn round → Askable n m start limit w
+    pub askable : (limit : ℕ) → limit ≡ limitIn round → Askable n arcs start limit w
     askable limit is =
         record {
-          holds = holds-same n w w₀ (s .same-map) m start (s .same-length) holds;
+          holds = holds-same n w w₀ (s .same-map) arcs start (s .same-length) holds;
           start-within = rw (problem-same n w w₀ (s .same-map) start, is) start-low;
           limit-below = rw is limit-below;
         }
@@ -103,8 +104,8 @@ module _ {n m start : ℕ} {w₀ : List ℕ} (holds : Holds n m start w₀) wher
     unfolding problemAt
     queries-below = omega (arith, query-left, laws.trace-length p (holds .valid), sizes)
 
-module _ {n m start a : ℕ} {w₀ w : List ℕ} {round : Round} {t q limit : ℕ} {w′ : List ℕ} {r : Asked}
-    (u : Turn n m start a w₀ w round t q limit w′ r) where
+module _ {n arcs start a : ℕ} {w₀ w : List ℕ} {round : Round} {t q limit : ℕ} {w′ : List ℕ} {r : Asked}
+    (u : Turn n arcs start a w₀ w round t q limit w′ r) where
   abbrev problem : Problem
   problem = problemAt n start w₀
 
@@ -115,19 +116,35 @@ module _ {n m start a : ℕ} {w₀ w : List ℕ} {round : Round} {t q limit : �
   answer = rw (u .limit-is) at (u .answered)
 
   same : problemAt n start w ≡ problem
-  same = problem-same n w w₀ (u .searching .same-map) start
+  same = problem-same n w w₀ (u .between .same-map) start
 
   kept-map : drop (endsAt n) w′ ≡ drop (endsAt n) w₀
-  kept-map = answer .same-map ∙ u .searching .same-map
+  kept-map = answer .same-map ∙ u .between .same-map
 
   under-way : Underway problem a (roundOf round) (outcomeOf (round .outcome)) t q
-  under-way = u .searching .underway
+  under-way = u .between .underway
 
   abbrev asked : model.Query
   asked = query problem (limitIn round) (round .budget)
 
-  pub turn-spent : r .spent ≡ true → Searched n start a w₀ w′ (Spent (round .low) (q + 1))
-  turn-spent e = record { same-map = kept-map; means = underway.ends-spent problem valid a under-way (rw same at (answer .spent e)) }
+  -- what was left has been counted, so that the total is the allowance
+  total-spent : r .spent ≡ true → t + r .count ≡ a
+  total-spent e = omega (arith, answer .cut e, under-way .lasts)
+
+  -- the total stays within the allowance
+  pub total-within : t + r .count ≤ a
+  total-within = within (r .spent) refl
+    where
+      within : (b : Bool) → r .spent ≡ b → t + r .count ≤ a
+      within true e = omega (arith, total-spent e)
+      within false e = omega (arith, answer .lasts e, answer .count e, under-way .lasts)
+
+  pub turn-spent : r .spent ≡ true → Searched n start a w₀ w′ (Spent (round .low) (t + r .count) (q + 1))
+  turn-spent e =
+      record {
+        same-map = kept-map;
+        means = rw (total-spent e) (underway.ends-spent problem valid a under-way (rw same at (answer .spent e)));
+      }
 
   module _ (e : r .spent ≡ false) where
     lasts : asked .cost ≤ a - t
@@ -136,72 +153,73 @@ module _ {n m start a : ℕ} {w₀ w : List ℕ} {round : Round} {t q limit : �
     count : r .count ≡ asked .cost
     count = rw same at (answer .count e)
 
-    outcome : (o : Outcome) → r .outcome ≡ o → asked .outcome ≡ outcomeOf o
-    outcome o f = sym (rw same at (answer .outcome e)) ∙ ap outcomeOf f
-
-    -- the total stays within the allowance
-    pub total-within : t + r .count ≤ a
-    total-within = omega (arith, lasts, count, under-way .lasts)
-
-    pub turn-no-route : r .outcome ≡ None → Searched n start a w₀ w′ (NoRoute limit (t + r .count) (q + 1))
-    unfolding problemAt
-    turn-no-route f =
-        record { same-map = kept-map; means = rw (u .limit-is, count) (underway.ends-no-route problem valid a under-way (outcome None f) lasts) }
-
-    onward : (next-round : Round) → next problem (ask problem (roundOf round)) ≡ some (roundOf next-round) → next-round .outcome ≡ r .outcome
-        → Searching n start a w₀ w′ next-round (t + r .count) (q + 1)
-    onward next-round f carried =
-        let ended = outcome (next-round .outcome) (sym carried) in
-        record {
-          same-map = kept-map;
-          same-length = u .same-length ∙ u .searching .same-length;
-          underway = rw (count, ← ended) (underway.goes-on problem valid a under-way (roundOf next-round) f lasts);
-        }
-
-    pub turn-ended : (x : ℕ) (next-round : Round) → r .outcome ≡ Ended x → Settled x (round .high) (round .budget) (Ended x) next-round
-        → Searching n start a w₀ w′ next-round (t + r .count) (q + 1)
-    unfolding problemAt
-    turn-ended x next-round f h =
-        onward next-round (rw (h .round) (underway.after-ended problem (roundOf round) x (outcome (Ended x) f))) (h .carries ∙ sym f)
-
-    pub turn-over : (next-round : Round) → r .outcome ≡ Over → Settled (round .low) (At limit) (round .budget) (r .outcome) next-round
-        → Searching n start a w₀ w′ next-round (t + r .count) (q + 1)
-    unfolding problemAt
-    turn-over next-round f h =
-        onward next-round (rw (h .round, u .limit-is) (underway.after-over problem (roundOf round) (outcome Over f))) (h .carries)
+    asked-outcome : outcomeOf (r .outcome) ≡ asked .outcome
+    asked-outcome = rw same at (answer .outcome e)
 
     at-goal : r .outcome ≡ Found → FoundAt problem (limitIn round) n (r .place) w′
     at-goal f = rw same at (answer .found e f)
 
-    pub turn-arrived : r .outcome ≡ Found → ((v d : ℕ) → costAt (labels n w′) v ≡ some d → d < 2 ^ 30) → Arrived n (r .place) w′
-    turn-arrived f low =
-        let holds = holds-same n w′ w₀ kept-map m start (u .same-length ∙ u .searching .same-length) (u .holds) in
-        record {
-          labelled = record { arcs = m; start = start; holds = holds; label-below = low };
-          cost = at-goal f .cost;
-          label = at-goal f .label;
-        }
+    -- the record that the query leaves has its outcome
+    module _ (left : Round) (h : RoundAfter round limit (r .outcome) left) where
+      outcome : (o : Outcome) → left .outcome ≡ o → asked .outcome ≡ outcomeOf o
+      outcome o f = sym asked-outcome ∙ ap outcomeOf (sym (h .carries) ∙ f)
 
-    -- the parents are set, and the area is w″
-    pub turn-routed : (w″ : List ℕ) (v : Verdict) → r .outcome ≡ Found → Parented n (r .place) limit (t + r .count) (q + 1) w′ w″ v
-        → Searched n start a w₀ w″ v
-    turn-routed w″ v f h = record { same-map = h .parents .same-map ∙ kept-map; means = rw (h .verdict) (route, ends, follows) }
-      where
-        g : Key
-        g = record { cost = at-goal f .cost; place = r .place }
+      pub turn-no-route : left .outcome ≡ None → Searched n start a w₀ w′ (NoRoute limit (t + r .count) (q + 1))
+      unfolding problemAt
+      turn-no-route f =
+          record { same-map = kept-map; means = rw (u .limit-is, count) (underway.ends-no-route problem valid a under-way (outcome None f) lasts) }
 
-        route : List ℕ
-        route = routeTo problem (table problem (limitIn round)) g
+      -- a round follows
+      onward : (s : rounds.Round) → next problem (ask problem (roundOf round)) ≡ some s → BetweenQueries n start a w₀ w′ left (t + r .count) (q + 1)
+      unfolding next ask problemAt
+      onward s f =
+          let is : roundOf left ≡ s = h .next s (rw (u .limit-is, asked-outcome) f) in
+          record {
+            same-map = kept-map;
+            same-length = u .same-length ∙ u .between .same-length;
+            underway = rw (count, h .carries, asked-outcome, is) (underway.goes-on problem valid a under-way s f lasts);
+          }
 
-        same-cost : at-goal f .cost ≡ h .cost
-        same-cost = let found = at-goal f .label in let label = h .label in cc
+      pub turn-ended : {x : ℕ} → left .outcome ≡ Ended x → BetweenQueries n start a w₀ w′ left (t + r .count) (q + 1)
+      turn-ended {x} f = onward _ (underway.after-ended problem (roundOf round) x (outcome (Ended x) f))
 
-        ends : searched problem (search problem a) (search problem a .spent) ≡ routed (h .cost) route limit (t + r .count) (q + 1)
-        ends =
-            underway.ends-routed problem valid a under-way (outcome Found f) lasts g (at-goal f .is-first)
-            ∙ ap (λ (c : ℕ). routed c route (limitIn round) (t + asked .cost) (q + 1)) same-cost
-            ∙ ap₂ (λ (l x : ℕ). routed (h .cost) route l (t + x) (q + 1)) (sym (u .limit-is)) (sym count)
+      pub turn-over : left .outcome ≡ Over → BetweenQueries n start a w₀ w′ left (t + r .count) (q + 1)
+      turn-over f = onward _ (underway.after-over problem (roundOf round) (outcome Over f))
 
-        follows : Follows n w″ (r .place) route
-        follows =
-            follows-route problem valid (limitIn round) n start (r .place) w′ w″ (problem-same n w′ w₀ kept-map start) (at-goal f) (h .parents)
+      pub turn-goal : left .outcome ≡ Found → GoalLabelled n (r .place) w′
+      turn-goal f =
+          let goal = at-goal (sym (h .carries) ∙ f) in
+          let holds = holds-same n w′ w₀ kept-map arcs start (u .same-length ∙ u .between .same-length) (u .holds) in
+          record {
+            labelled = record { arcs = arcs; start = start; holds = holds; label-below = goal .label-below };
+            cost = goal .cost;
+            label = goal .label;
+          }
+
+      -- the parents are set, and the area is w″
+      pub turn-routed : (w″ : List ℕ) (v : Verdict) → left .outcome ≡ Found → Parented n (r .place) limit (t + r .count) (q + 1) w′ w″ v
+          → Searched n start a w₀ w″ v
+      turn-routed w″ v f parented =
+          record { same-map = parented .parents .same-map ∙ kept-map; means = rw (parented .verdict) (route, ends, follows) }
+        where
+          goal : FoundAt problem (limitIn round) n (r .place) w′
+          goal = at-goal (sym (h .carries) ∙ f)
+
+          g : Key
+          g = record { cost = goal .cost; place = r .place }
+
+          route : List ℕ
+          route = routeTo problem (table problem (limitIn round)) g
+
+          same-cost : goal .cost ≡ parented .cost
+          same-cost = let found = goal .label in let label = parented .label in cc
+
+          ends : searched problem (search problem a) (search problem a .spent) ≡ routed (parented .cost) route limit (t + r .count) (q + 1)
+          ends =
+              underway.ends-routed problem valid a under-way (outcome Found f) lasts g (goal .is-first)
+              ∙ ap (λ (c : ℕ). routed c route (limitIn round) (t + asked .cost) (q + 1)) same-cost
+              ∙ ap₂ (λ (l x : ℕ). routed (parented .cost) route l (t + x) (q + 1)) (sym (u .limit-is)) (sym count)
+
+          follows : Follows n w″ (r .place) route
+          follows =
+              follows-route problem valid (limitIn round) n start (r .place) w′ w″ (problem-same n w′ w₀ kept-map start) goal (parented .parents)

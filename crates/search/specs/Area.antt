@@ -3,11 +3,12 @@ use mathlib.Core.Path.{_≡_}
 use mathlib.Core.Bool.{Bool, cond, not, _&&_}
 use mathlib.Core.List.{List, [], _∷_, _++_, map}
 use mathlib.Core.Option.{Option, none, some}
-use Prim.Native.Nat.{ℕ, _+_, _*_, _^_, _≤_, _<_}
+use Prim.Native.Nat.{ℕ, _+_, _^_, _≤_, _<_}
 use lib.Dec.{eqb, ltb}
 use lib.ListN.{length, getD, take, drop}
 use Rattle.open_list.specs.Entry.{noKey}
 use Rattle.open_list.specs.Keys.{keysOf}
+use Rattle.open_list.specs.Size.{wordsOf}
 use Rattle.map.specs.Layout.{openAt, parentsAt, endsAt, arcsAt, Holds, problemAt}
 use Rattle.model.specs.Costs.{Table, costAt}
 use Rattle.model.specs.Limits.{maxPlaces}
@@ -22,17 +23,17 @@ wordOr x = cond (eqb x noKey) none (some x)
 unfoldable pub labels : ℕ → List ℕ → Table
 labels n w = map wordOr (take n w)
 
--- the words of the open list with m nodes, and its keys
+-- the words of an open list of so many nodes, and its keys
 unfoldable pub openWords : ℕ → ℕ → List ℕ → List ℕ
-openWords n m w = take (9 * m + 1) (drop (openAt n) w)
+openWords n nodes w = take (wordsOf nodes) (drop (openAt n) w)
 
 unfoldable pub keys : ℕ → ℕ → ℕ → List ℕ → List ℕ
-keys n m hand w = keysOf m hand (openWords n m w)
+keys n nodes hand w = keysOf nodes hand (openWords n nodes w)
 
 -- a place is settled when it has a label and is not open
 unfoldable pub settledAt : ℕ → ℕ → ℕ → List ℕ → ℕ → Bool
-settledAt n m hand w v =
-    ltb v n && (not (eqb (getD w v 0) noKey) && eqb (getD (keys n m hand w) v 0) noKey)
+settledAt n nodes hand w v =
+    ltb v n && (not (eqb (getD w v 0) noKey) && eqb (getD (keys n nodes hand w) v 0) noKey)
 
 -- the parent of a place, as the words have it
 unfoldable pub parentAt : ℕ → List ℕ → ℕ → Option ℕ

@@ -23,8 +23,8 @@ outcomeOf Found = model.found
 outcomeOf None = model.nothing
 
 -- the area holds a map, the start is within the limit, and the limit is one that the rounds can ask
-pub record Askable (n m start limit : ℕ) (w : List ℕ) : Type 0 where
-  pub holds : Holds n m start w
+pub record Askable (n arcs start limit : ℕ) (w : List ℕ) : Type 0 where
+  pub holds : Holds n arcs start w
   pub start-within : problemAt n start w .estimate start ≤ limit
   pub limit-below : limit < 2 ^ 30
 
@@ -41,10 +41,12 @@ pub record FoundAt (p : Problem) (limit n place : ℕ) (w : List ℕ) : Type 0 w
   pub agrees : Agrees (labels n w) (table p limit) cost
   pub label-below : (v d : ℕ) → costAt (labels n w) v ≡ some d → d < 2 ^ 30
 
--- The query's outcome and cost are the definition's, unless it costs more than is left; the map is as before.
+-- The query's outcome and cost are the definition's, unless it costs more than is left; where it is cut, it has counted what was left. The
+-- map is as before.
 pub record Answered (n start limit budget left : ℕ) (w₀ w : List ℕ) (r : Asked) : Type 0 where
   pub same-map : drop (endsAt n) w ≡ drop (endsAt n) w₀
   pub spent : r .spent ≡ true → left < query (problemAt n start w₀) limit budget .cost
+  pub cut : r .spent ≡ true → r .count ≡ left
   pub lasts : r .spent ≡ false → query (problemAt n start w₀) limit budget .cost ≤ left
   pub outcome : r .spent ≡ false → outcomeOf (r .outcome) ≡ query (problemAt n start w₀) limit budget .outcome
   pub count : r .spent ≡ false → r .count ≡ query (problemAt n start w₀) limit budget .cost

@@ -26,17 +26,17 @@ roundOf r = record { low = r .low; high = highOf (r .high); budget = r .budget }
 
 -- Document 01's ending for each verdict. Of a route: the goal's key is the limit's first goal, and the parents in the area lead along the
 -- route that the definitions put on the sheet.
-abbrev pub Means : (n start allowance : ℕ) (w₀ w : List ℕ) → Verdict → Ending → Type 0
-Means n start allowance w₀ w (Spent floor queries) e = e ≡ answer.spent floor allowance queries
-Means n start allowance w₀ w (NoRoute limit expansions queries) e = e ≡ answer.noRoute start limit expansions queries
-Means n start allowance w₀ w (Routed cost goal limit expansions queries) e =
+abbrev pub Means : (n start : ℕ) (w : List ℕ) → Verdict → Ending → Type 0
+Means n start w (Spent floor expansions queries) e = e ≡ answer.spent floor expansions queries
+Means n start w (NoRoute limit expansions queries) e = e ≡ answer.noRoute start limit expansions queries
+Means n start w (Routed cost goal limit expansions queries) e =
     (r : List ℕ) × (e ≡ answer.routed cost r limit expansions queries) × Follows n w goal r
 
 -- the area holds a map
-abbrev pub Searchable : (n m start : ℕ) → List ℕ → Type 0
-Searchable n m start w = Holds n m start w
+abbrev pub Searchable : (n arcs start : ℕ) → List ℕ → Type 0
+Searchable n arcs start w = Holds n arcs start w
 
 pub record Searched (n start allowance : ℕ) (w₀ w : List ℕ) (r : Verdict) : Type 0 where
   pub same-map : drop (endsAt n) w ≡ drop (endsAt n) w₀
-  pub means : Means n start allowance w₀ w r
+  pub means : Means n start w r
       (searched (problemAt n start w₀) (search (problemAt n start w₀) allowance) (search (problemAt n start w₀) allowance .spent))

@@ -18,38 +18,38 @@ use Rattle.search.specs.Area.{labels, openWords, keys, settledAt}
 use Rattle.search.specs.Query.{outcomeOf}
 use Rattle.search.specs.declared.Asked.{Asked}
 
--- the words have room for n places and an open list of m nodes
-pub record Room (n m : ℕ) (w : List ℕ) : Type 0 where
+-- the words have room for n places and an open list of so many nodes
+pub record Room (n nodes : ℕ) (w : List ℕ) : Type 0 where
   pub few : n ≤ maxPlaces
-  pub enough : Enough n m
+  pub enough : Enough n nodes
   pub words : arcsAt n ≤ length w
 
 -- what `clear` leaves: no place has a label, none is open, and the map is as before
-pub record Blank (n m : ℕ) (w₀ w : List ℕ) : Type 0 where
+pub record Blank (n nodes : ℕ) (w₀ w : List ℕ) : Type 0 where
   pub same-map : drop (endsAt n) w ≡ drop (endsAt n) w₀
   pub unlabelled : (v : ℕ) → v < n → getD w v 0 ≡ noKey
-  pub none-open : Cleared m (openWords n m w)
+  pub none-open : Cleared nodes (openWords n nodes w)
 
 -- what `arrive` asks
-pub record Arrives (n m hand v d : ℕ) (w : List ℕ) : Type 0 where
-  pub room : Room n m w
+pub record Arrives (n nodes hand v d : ℕ) (w : List ℕ) : Type 0 where
+  pub room : Room n nodes w
   pub place : v < n
-  pub lowers : Lowers m hand v d (openWords n m w)
+  pub lowers : Lowers nodes hand v d (openWords n nodes w)
 
 -- what `arrive` leaves: v is labelled d and open with that key, no other place has another label or key, and the map is as before
-pub record Arrived (n m v d hand₀ : ℕ) (w₀ : List ℕ) (hand : ℕ) (w : List ℕ) : Type 0 where
+pub record Arrived (n nodes v d hand₀ : ℕ) (w₀ : List ℕ) (hand : ℕ) (w : List ℕ) : Type 0 where
   pub same-map : drop (endsAt n) w ≡ drop (endsAt n) w₀
-  pub list : OpenList m hand (openWords n m w)
+  pub list : OpenList nodes hand (openWords n nodes w)
   pub label : getD w v 0 ≡ d
   pub other-labels : (u : ℕ) → u < n → (u ≡ v → ⊥) → getD w u 0 ≡ getD w₀ u 0
-  pub keys-set : keys n m hand w ≡ set (keys n m hand₀ w₀) v d
+  pub keys-set : keys n nodes hand w ≡ set (keys n nodes hand₀ w₀) v d
 
 -- labels and open list agree: an open place's key is its label, and only places are open
-pub record Coherent (n m hand : ℕ) (w : List ℕ) : Type 0 where
-  pub room : Room n m w
-  pub list : OpenList m hand (openWords n m w)
-  pub key-label : (v : ℕ) → v < n → (getD (keys n m hand w) v 0 ≡ noKey) ⊎ (getD (keys n m hand w) v 0 ≡ getD w v 0)
-  pub beyond : (v : ℕ) → n ≤ v → v < 7 * m + 1 → getD (keys n m hand w) v 0 ≡ noKey
+pub record Coherent (n nodes hand : ℕ) (w : List ℕ) : Type 0 where
+  pub room : Room n nodes w
+  pub list : OpenList nodes hand (openWords n nodes w)
+  pub key-label : (v : ℕ) → v < n → (getD (keys n nodes hand w) v 0 ≡ noKey) ⊎ (getD (keys n nodes hand w) v 0 ≡ getD w v 0)
+  pub beyond : (v : ℕ) → n ≤ v → v < 7 * nodes + 1 → getD (keys n nodes hand w) v 0 ≡ noKey
 
 -- the arc with the word x, from a place at cost d, gives v the cost e within the limit
 pub record ByArc (n limit d x : ℕ) (w : List ℕ) (v e : ℕ) : Type 0 where
@@ -65,34 +65,34 @@ pub record ByArcs (n limit d k₀ k : ℕ) (w : List ℕ) (v e : ℕ) : Type 0 w
   pub by : ByArc n limit d (getD w (arcsAt n + number) 0) w v e
 
 -- v's label has fallen to one that By gives, and v is open with it
-pub record Fell (n m : ℕ) (By : ℕ → ℕ → Type 0) (w₀ : List ℕ) (hand : ℕ) (w : List ℕ) (v : ℕ) : Type 0 where
+pub record Fell (n nodes : ℕ) (By : ℕ → ℕ → Type 0) (w₀ : List ℕ) (hand : ℕ) (w : List ℕ) (v : ℕ) : Type 0 where
   pub lower : getD w v 0 < getD w₀ v 0
-  pub key : getD (keys n m hand w) v 0 ≡ getD w v 0
+  pub key : getD (keys n nodes hand w) v 0 ≡ getD w v 0
   pub by : By v (getD w v 0)
 
 -- v has the label and the key that it had
-pub record Stays (n m hand₀ : ℕ) (w₀ : List ℕ) (hand : ℕ) (w : List ℕ) (v : ℕ) : Type 0 where
+pub record Stays (n nodes hand₀ : ℕ) (w₀ : List ℕ) (hand : ℕ) (w : List ℕ) (v : ℕ) : Type 0 where
   pub label : getD w v 0 ≡ getD w₀ v 0
-  pub key : getD (keys n m hand w) v 0 ≡ getD (keys n m hand₀ w₀) v 0
+  pub key : getD (keys n nodes hand w) v 0 ≡ getD (keys n nodes hand₀ w₀) v 0
 
 -- Arcs have been relaxed. Where `By v e`, one of them gives v the cost e within the limit: labels are no higher, and those that
 -- have changed are of this kind.
-pub record Relaxed (n m : ℕ) (By : ℕ → ℕ → Type 0) (hand₀ : ℕ) (w₀ : List ℕ) (hand : ℕ) (w : List ℕ) : Type 0 where
+pub record Relaxed (n nodes : ℕ) (By : ℕ → ℕ → Type 0) (hand₀ : ℕ) (w₀ : List ℕ) (hand : ℕ) (w : List ℕ) : Type 0 where
   pub same-map : drop (endsAt n) w ≡ drop (endsAt n) w₀
-  pub coherent : Coherent n m hand w
+  pub coherent : Coherent n nodes hand w
   pub reached : (v e : ℕ) → v < n → By v e → getD w v 0 ≤ e
-  pub moved : (v : ℕ) → v < n → Stays n m hand₀ w₀ hand w v ⊎ Fell n m By w₀ hand w v
+  pub moved : (v : ℕ) → v < n → Stays n nodes hand₀ w₀ hand w v ⊎ Fell n nodes By w₀ hand w v
 
 -- what `relax` asks
-pub record Relaxes (n m hand d x : ℕ) (w : List ℕ) : Type 0 where
-  pub coherent : Coherent n m hand w
+pub record Relaxes (n nodes hand d x : ℕ) (w : List ℕ) : Type 0 where
+  pub coherent : Coherent n nodes hand w
   pub arc-end : x / 65536 < n
   pub label-below : d < 2 ^ 30
   pub estimate-below : getD w (estimatesAt n + x / 65536) 0 ≤ maxEstimate
 
 -- what `expand` asks
-pub record Expands (n m hand u d : ℕ) (w : List ℕ) : Type 0 where
-  pub coherent : Coherent n m hand w
+pub record Expands (n nodes hand u d : ℕ) (w : List ℕ) : Type 0 where
+  pub coherent : Coherent n nodes hand w
   pub place : u < n
   pub label-below : d < 2 ^ 30
   pub arcs : ℕ
@@ -100,20 +100,20 @@ pub record Expands (n m hand u d : ℕ) (w : List ℕ) : Type 0 where
   pub holds : Holds n arcs start w
 
 -- the loop of `expand`: the arcs up to k are relaxed
-pub record Expanding (n m limit d end hand₀ : ℕ) (w₀ : List ℕ) (k₀ hand : ℕ) (w : List ℕ) (k : ℕ) : Type 0 where
-  pub relaxed : Relaxed n m (ByArcs n limit d k₀ k w₀) hand₀ w₀ hand w
+pub record Expanding (n nodes limit d end hand₀ : ℕ) (w₀ : List ℕ) (k₀ hand : ℕ) (w : List ℕ) (k : ℕ) : Type 0 where
+  pub relaxed : Relaxed n nodes (ByArcs n limit d k₀ k w₀) hand₀ w₀ hand w
   pub same-length : length w ≡ length w₀
   pub room : arcsAt n + end ≤ length w
   pub from : k₀ ≤ k
   pub within : k ≤ end
 
 -- the loop of `query`: a uniform-cost search is under way
-pub record Searching (n m start limit budget left : ℕ) (w₀ : List ℕ) (hand : ℕ) (w : List ℕ) (count : ℕ) : Type 0 where
+pub record Searching (n nodes start limit budget left : ℕ) (w₀ : List ℕ) (hand : ℕ) (w : List ℕ) (count : ℕ) : Type 0 where
   pub same-map : drop (endsAt n) w ≡ drop (endsAt n) w₀
   pub same-length : length w ≡ length w₀
-  pub coherent : Coherent n m hand w
-  pub front : Front (problemAt n start w₀) limit (λ v. costAt (labels n w) v) (settledAt n m hand w)
-  pub counted : countBelow (settledAt n m hand w) n ≡ count
+  pub coherent : Coherent n nodes hand w
+  pub front : Front (problemAt n start w₀) limit (λ v. costAt (labels n w) v) (settledAt n nodes hand w)
+  pub counted : countBelow (settledAt n nodes hand w) n ≡ count
   pub in-budget : count ≤ budget
   pub lasts : count ≤ left
 

@@ -1,7 +1,7 @@
 -- What the functions of the rounds ask and give, and where the search stands as a query begins.
 use mathlib.Core.Path.{_≡_}
 use mathlib.Core.List.{List, [], _∷_, _++_}
-use mathlib.Core.Option.{some}
+use mathlib.Core.Option.{none, some}
 use Prim.Native.Nat.{ℕ, _≤_}
 use lib.ListN.{length, drop}
 use Rattle.map.specs.Layout.{problemAt, endsAt}
@@ -9,7 +9,7 @@ use Rattle.model.specs.Problem.{Problem}
 use Rattle.model.specs.Costs.{costAt}
 use Rattle.model.specs.Query as query
 use Rattle.model.specs.Rounds as model
-use Rattle.model.specs.Rounds.{Step, trace}
+use Rattle.model.specs.Rounds.{after, Step, trace}
 use Rattle.model.specs.Terms.{Run}
 use Rattle.search.specs.Area.{labels, Labelled, HasParents}
 use Rattle.search.specs.Query.{outcomeOf}
@@ -25,8 +25,15 @@ pub record Settled (low : ℕ) (high : High) (budget : ℕ) (outcome : Outcome) 
   pub round : roundOf r ≡ model.settle 2 low (highOf high) budget
   pub carries : r .outcome ≡ outcome
 
+-- the record that a query leaves: of the next round where the definition gives one, of the same round where it gives none; with the
+-- query's outcome
+pub record RoundAfter (round : Round) (limit : ℕ) (outcome : Outcome) (r : Round) : Type 0 where
+  pub next : (s : model.Round) → after 2 (roundOf round) limit (outcomeOf outcome) ≡ some s → roundOf r ≡ s
+  pub finished : after 2 (roundOf round) limit (outcomeOf outcome) ≡ none → roundOf r ≡ roundOf round
+  pub carries : r .outcome ≡ outcome
+
 -- the goal has a label
-pub record Arrived (n goal : ℕ) (w : List ℕ) : Type 0 where
+pub record GoalLabelled (n goal : ℕ) (w : List ℕ) : Type 0 where
   pub labelled : Labelled n w
   pub cost : ℕ
   pub label : costAt (labels n w) goal ≡ some cost
@@ -51,7 +58,7 @@ pub record Underway (p : Problem) (allowance : ℕ) (r : model.Round) (o : query
   pub last-outcome : (before : List Step) (s : Step) → done ≡ before ++ (s ∷ []) → s .query .outcome ≡ o
 
 -- as a query begins: the map is as it was, the round is one of the search's, and its record carries the outcome of the query before
-pub record Searching (n start allowance : ℕ) (w₀ w : List ℕ) (round : Round) (total queries : ℕ) : Type 0 where
+pub record BetweenQueries (n start allowance : ℕ) (w₀ w : List ℕ) (round : Round) (total queries : ℕ) : Type 0 where
   pub same-map : drop (endsAt n) w ≡ drop (endsAt n) w₀
   pub same-length : length w ≡ length w₀
   pub underway : Underway (problemAt n start w₀) allowance (roundOf round) (outcomeOf (round .outcome)) total queries

@@ -13,7 +13,8 @@ pub enum Outcome {
     None,
 }
 
-// What a query gives. Where what is left of the allowance does not last, `spent` is set and the rest says nothing.
+// What a query gives. Where what is left of the allowance does not last, `spent` is set, `count` is what was left, and the rest says
+// nothing.
 pub struct Asked {
     pub spent: bool,
     pub outcome: Outcome,
@@ -35,9 +36,9 @@ pub struct Round {
     pub outcome: Outcome,
 }
 
-// How the search ends: floor and queries; limit, expansions and queries; or cost, goal, limit, expansions and queries.
+// How the search ends: floor, expansions and queries; limit, expansions and queries; or cost, goal, limit, expansions and queries.
 pub enum Verdict {
-    Spent(u32, u32),
+    Spent(u32, u32, u32),
     NoRoute(u32, u32, u32),
     Routed(u32, u32, u32, u32, u32),
 }

@@ -16,7 +16,7 @@ fn clear(work: &mut [u32], n: usize, m: usize)
     ensures { λ _. ⌜ Blank n m (now (work .entry)) (now (work .exit)) ⌝ }
 {
     area::fill(&mut work[0..n], NONE);
-    let end = n + 9 * m + 1;
+    let end = n + open_list::words(m);
     open_list::clear(&mut work[n..end], m);
 }
 
@@ -26,7 +26,7 @@ fn arrive(work: &mut [u32], n: usize, m: usize, hand: u64, v: usize, d: u32) -> 
     ensures { λ r. ⌜ Arrived n m v d hand (now (work .entry)) r (now (work .exit)) ⌝ }
 {
     work[v] = d;
-    let end = n + 9 * m + 1;
+    let end = n + open_list::words(m);
     open_list::lower(&mut work[n..end], m, hand, v, d)
 }
 
@@ -90,17 +90,19 @@ pub fn query(work: &mut [u32], size: Map, start: u32, limit: u32, budget: u32, l
 {
     let n = size.places;
     let m = open_list::nodes(n);
-    let end = n + 9 * m + 1;
+    let end = n + open_list::words(m);
     clear(work, n, m);
     let mut hand = arrive(work, n, m, open_list::empty(), start as usize, 0);
     let mut count: u32 = 0;
     loop {
         let first = open_list::least(&work[n..end], m, hand);
-        let d = (first / open_list::KEY) as u32;
-        let place = (first % open_list::KEY) as usize;
+        let d = open_list::key_of(first);
+        let place = open_list::place_of(first) as usize;
         if d == NONE {
             return all_settled(work, n, count);
         }
+        // A goal before the budget, since a query's length counts the places before the first goal; the budget before the allowance,
+        // since document 01 lets it count first.
         if work[layout::goals_at(n) + place] != 0 {
             return Asked {
                 spent: false,

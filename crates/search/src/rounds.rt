@@ -9,7 +9,7 @@ ghost use mathlib.Core.Path.{_≡_};
 ghost use Prim.Native.Nat.{_^_, _<_};
 ghost use Rattle.model.specs.Rounds.{limitOf};
 ghost use Rattle.search.specs.Rounds.{Searchable, Searched, highOf};
-ghost use Rattle.search.specs.Underway.{Settled, Arrived, Parented};
+ghost use Rattle.search.specs.Underway.{Settled, RoundAfter, GoalLabelled, Parented};
 
 // What the budget is multiplied by when a round closes.
 const GROWTH: u32 = 2;
@@ -56,9 +56,29 @@ fn settle(low: u32, high: High, budget: u32, outcome: Outcome) -> Round
     }
 }
 
+// The record that a query leaves. Ended sets low to its number, over sets high to the limit; found and none finish the search.
+fn after(round: Round, limit: u32, outcome: Outcome) -> Round
+    requires { ⌜ round .budget < 2 ^ 30 ⌝ }
+    ensures { λ r. ⌜ RoundAfter round limit outcome r ⌝ }
+{
+    let high = round.high;
+    let same = Round {
+        low: round.low,
+        high,
+        budget: round.budget,
+        outcome,
+    };
+    match outcome {
+        Outcome::Ended(next) => settle(next, high, round.budget, outcome),
+        Outcome::Over => settle(round.low, High::At(limit), round.budget, outcome),
+        Outcome::Found => same,
+        Outcome::None => same,
+    }
+}
+
 // The goal's label is its cost; the parents lead back from it.
 fn found(work: &mut [u32], size: Map, goal: u32, limit: u32, total: u32, queries: u32) -> Verdict
-    requires { ⌜ Arrived (size .places) goal (now work) ⌝ }
+    requires { ⌜ GoalLabelled (size .places) goal (now work) ⌝ }
     ensures { λ r. ⌜ Parented (size .places) goal limit total queries (now (work .entry)) (now (work .exit)) r ⌝ }
 {
     crate::scans::parents(work, size.places);
@@ -70,6 +90,7 @@ pub fn search(work: &mut [u32], size: Map, start: u32, allowance: u32) -> Verdic
     ensures { λ r. ⌜ Searched (size .places) start allowance (now (work .entry)) (now (work .exit)) r ⌝ }
 {
     let n = size.places;
+    // No query yet; its outcome is read by nobody.
     let mut round = Round {
         low: work[layout::estimates_at(n) + start as usize],
         high: High::Unset,
@@ -83,11 +104,13 @@ pub fn search(work: &mut [u32], size: Map, start: u32, allowance: u32) -> Verdic
         let limit = limit_of(round.low, high);
         queries += 1;
         let asked = crate::query::query(work, size, start, limit, round.budget, allowance - total);
-        if asked.spent {
-            return Verdict::Spent(round.low, queries);
-        }
         total += asked.count;
+        if asked.spent {
+            return Verdict::Spent(round.low, total, queries);
+        }
         let outcome = asked.outcome;
+        round = after(round, limit, outcome);
+        let outcome = round.outcome;
         match outcome {
             Outcome::Found => {
                 return found(work, size, asked.place, limit, total, queries);
@@ -95,12 +118,8 @@ pub fn search(work: &mut [u32], size: Map, start: u32, allowance: u32) -> Verdic
             Outcome::None => {
                 return Verdict::NoRoute(limit, total, queries);
             }
-            Outcome::Ended(next) => {
-                round = settle(next, high, round.budget, outcome);
-            }
-            Outcome::Over => {
-                round = settle(round.low, High::At(limit), round.budget, outcome);
-            }
+            Outcome::Ended(_) => {}
+            Outcome::Over => {}
         }
     }
 }

@@ -66,7 +66,8 @@ pub fn next_limit(work: &[u32], n: usize) -> u32
     best
 }
 
-// The arc with the word x, from u with the label d: u is the parent of its end, if that has the label and no parent yet.
+// The arc with the word x, from u with the label d: u is the parent of its end, if that is labelled d plus the arc's cost
+// and has no parent yet.
 fn parent_by(work: &mut [u32], n: usize, u: u32, d: u32, x: u32)
     requires { ⌜ ArcWord n d x (now work) ⌝ }
     ensures { λ _. ⌜ now (work .exit) ≡ parentStored n u d x (now (work .entry)) ⌝ }
@@ -81,7 +82,7 @@ fn parent_by(work: &mut [u32], n: usize, u: u32, d: u32, x: u32)
     }
 }
 
-// The arcs of u, if it has a label.
+// The parents that the arcs of u give, if it has a label.
 fn row_parents(work: &mut [u32], n: usize, u: usize)
     requires { ⌜ ParentsRow n u (now work) ⌝ }
     ensures { λ _. ⌜ ParentsBelow n (suc u) (now (work .entry)) (now (work .exit)) ⌝ }

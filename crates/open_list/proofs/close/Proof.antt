@@ -6,8 +6,8 @@ use Rattle.open_list.proofs.Structure as structure
 use Rattle.open_list.proofs.close.Statement.{statement}
 use Rattle.open_list.proofs.close.Tie as tie
 
-place-requires : tie.Need-place-requires
-place-requires c κs = search needs
+place-of-requires : tie.Need-place-of-requires
+place-of-requires c κs = search needs
 
 wide-requires : tie.Need-wide-requires
 wide-requires c κs = search needs
@@ -37,7 +37,7 @@ pub close-spec : {M : Type 1} → statement M
 close-spec =
     tie.close
     (tie.spec
-    place-requires
+    place-of-requires
     wide-requires
     empty-requires
     returns

@@ -9,8 +9,8 @@ use Rattle.open_list.proofs.lower.Tie as tie
 pair-requires : tie.Need-pair-requires
 pair-requires c κs = structure.place-fits _ _ _ _ (c .before .pre .list) (c .before .pre .place-in)
 
-place-requires : tie.Need-place-requires
-place-requires c κs = search needs
+place-of-requires : tie.Need-place-of-requires
+place-of-requires c κs = search needs
 
 wide-requires : tie.Need-wide-requires
 wide-requires c κs = search needs
@@ -20,16 +20,16 @@ returns c =
     let start = c .before .before .before .before .before in
     structure.takes-again _ _ _ _ _ _ (start .pre) (c .before .before .before .pair .ensures) (omega arith)
 
-key-requires : tie.Need-key-requires
-key-requires c κs = search needs
+key-of-requires : tie.Need-key-of-requires
+key-of-requires c κs = search needs
 
 least-requires : tie.Need-least-requires
 least-requires c κs =
     let start = c .before .before .before .before .before .before .before .before in
     structure.tree-of _ _ _ (start .pre .list)
 
-key-requires-2 : tie.Need-key-requires-2
-key-requires-2 c κs =
+key-requires : tie.Need-key-requires
+key-requires c κs =
     let start = c .before .before .before .before .before .before .before .before .before .before .before in
     structure.tree-place _ _ _ _ (start .pre .list) (start .pre .place-in)
 
@@ -40,7 +40,7 @@ returns-2 : tie.Need-returns-2
 returns-2 c =
     let start = c .before .before .before .before .before .before .before .before .before .before .before .before .before in
     let pair = c .before .before .before .before .before .before .before .before .before .before .before .pair .ensures in
-    structure.takes-first _ _ _ _ _ _ (start .pre) pair (omega arith) (omega (arith, c .before .key2 .ensures))
+    structure.takes-first _ _ _ _ _ _ (start .pre) pair (omega arith) (omega (arith, c .before .key .ensures))
 
 lower-requires : tie.Need-lower-requires
 lower-requires c κs =
@@ -60,12 +60,12 @@ lower-spec =
     tie.close
     (tie.spec
     pair-requires
-    place-requires
+    place-of-requires
     wide-requires
     returns
-    key-requires
+    key-of-requires
     least-requires
-    key-requires-2
+    key-requires
     same-length
     returns-2
     lower-requires

@@ -13,14 +13,11 @@ mul-work c = search needs
 slice-write-work : tie.Need-slice-write-work
 slice-write-work c = search needs
 
-mul-end : tie.Need-mul-end
-mul-end c = search needs
+words-requires : tie.Need-words-requires
+words-requires c κs = c .before .pre .room .enough .nodes
 
 add-end : tie.Need-add-end
 add-end c = search needs
-
-add-end-2 : tie.Need-add-end-2
-add-end-2 c = search needs
 
 mul-lower : tie.Need-mul-lower
 mul-lower c = search needs
@@ -36,8 +33,7 @@ part-lower-end c = simp length-set (omega arith)
 
 lower-requires : tie.Need-lower-requires
 unfolding part
-lower-requires c κs =
-    laws.arrive-lowers _ _ _ _ _ _ (c .before .before .pre)
+lower-requires c κs = rw (c .before .words .ensures) (laws.arrive-lowers _ _ _ _ _ _ (c .before .before .before .pre))
 
 same-length : tie.Need-same-length
 same-length c = simp length-set at (c .before .work .given .1)
@@ -45,8 +41,10 @@ same-length c = simp length-set at (c .before .work .given .1)
 returns : tie.Need-returns
 unfolding part
 returns c =
-    let t = c .before .before .lower in
-    laws.arrived _ _ _ _ _ _ (c .before .before .before .before .before .pre) _ _ (t .kept .0) (t .ensures)
+    let start = c .before .before .before .before .before .before in
+    let size = c .before .before .before .before .words .ensures in
+    let lower = c .before .before .lower in
+    rw size (laws.arrived _ _ _ _ _ _ (start .pre) _ _ (rw size at (lower .kept .0)) (rw size at (lower .ensures)))
 
 pub arrive-spec : {M : Type 1} → statement M
 arrive-spec =
@@ -54,9 +52,8 @@ arrive-spec =
     (tie.spec
     mul-work
     slice-write-work
-    mul-end
+    words-requires
     add-end
-    add-end-2
     mul-lower
     sub-lower
     part-lower-start

@@ -17,14 +17,11 @@ part-fill-end c = search needs
 fill-requires : tie.Need-fill-requires
 fill-requires c κs = search needs
 
-mul-end : tie.Need-mul-end
-mul-end c = search needs
+words-requires : tie.Need-words-requires
+words-requires c κs = c .before .before .before .before .before .pre .enough .nodes
 
 add-end : tie.Need-add-end
 add-end c = search needs
-
-add-end-2 : tie.Need-add-end-2
-add-end-2 c = search needs
 
 mul-clear : tie.Need-mul-clear
 mul-clear c = search needs
@@ -47,10 +44,11 @@ same-length c = search needs
 returns : tie.Need-returns
 unfolding part
 returns c =
-    let s = c .before .before .before .before .before .before .before .before .before in
-    let f = c .before .before .before .before .before .before .fill in
-    let t = c .before .before .clear in
-    laws.blank _ _ _ (s .pre) _ (f .kept .0) _ (f .ensures) (t .kept .0) (t .ensures)
+    let start = c .before .before .before .before .before .before .before .before .before .before in
+    let fill = c .before .before .before .before .before .before .before .fill in
+    let size = c .before .before .before .before .words .ensures in
+    let clear = c .before .before .clear in
+    rw size (laws.blank _ _ _ (start .pre) _ (fill .kept .0) _ (fill .ensures) (rw size at (clear .kept .0)) (clear .ensures))
 
 pub clear-spec : {M : Type 1} → statement M
 clear-spec =
@@ -60,9 +58,8 @@ clear-spec =
     part-fill-start
     part-fill-end
     fill-requires
-    mul-end
+    words-requires
     add-end
-    add-end-2
     mul-clear
     sub-clear
     part-clear-start

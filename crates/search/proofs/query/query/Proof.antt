@@ -1,14 +1,16 @@
 -- The invariant of the loop: a uniform-cost search is under way, and count places are settled, at most as many as the budget and the
 -- allowance. The measure is the number of places that are not settled. Assumes nothing.
 use mathlib.Core.Path.{_≡_, _∙_}
-use Prim.Native.Nat.{_-_}
+use Prim.Native.Nat.{ℕ, _-_}
 use native.Mathlib.Omega.{arith}
 use denote.Ref.{now}
 use lib.ListN.{drop}
 use Rattle.area.specs.Part.{part}
-use Rattle.open_list.specs.Entry.{placeOf, keyOf}
+use Rattle.open_list.specs.Keys.{Least, keysOf}
+use Rattle.open_list.specs.Size.{wordsOf}
 use Rattle.map.specs.Layout.{endsAt}
 use Rattle.search.specs.State.{Searching}
+use Rattle.search.proofs.Regions.{openEnd}
 use Rattle.search.proofs.Searches as searches
 use Rattle.search.proofs.Searches.{Underway, Taken}
 use Rattle.search.proofs.Expansions as expansions
@@ -24,43 +26,59 @@ abbrev μ-loop : tie.MeasureT-loop
 μ-loop work₀ start limit budget left n m end hand₀ count₀ work hand count = n - count
 
 abbrev entry : tie.After-slice-known3 Inv-loop μ-loop → tie.Start Inv-loop μ-loop
-entry c = c .before .before .before .before .before .before .before .before .before .before .before
+entry c = c .before .before .before .before .before .before .before .before .before .before .before .before
+
+-- how many nodes the open list has, and that it ends where its words do
+abbrev nodes : tie.After-slice-known3 Inv-loop μ-loop → ℕ
+nodes c = c .before .before .before .before .before .before .before .before .before .before .nodes .result
+
+size : (c : tie.After-slice-known3 Inv-loop μ-loop) → c .before .before .before .before .before .before .before .before .before .words .result ≡ wordsOf (nodes c)
+size c = c .before .before .before .before .before .before .before .before .before .words .ensures
 
 -- The loop begins over words with the map that was there at entry.
 same-map : (c : tie.After-slice-known3 Inv-loop μ-loop)
     → drop (endsAt (entry c .args .size .places)) (c .before .before .arrive .last .0) ≡ drop (endsAt (entry c .args .size .places)) (now (entry c .args .work))
 same-map c = c .before .before .arrive .ensures .same-map ∙ c .before .before .before .before .before .before .before .clear .ensures .same-map
 
-under : (c : tie.At-loop Inv-loop μ-loop)
-    → Underway (entry (c .before) .args .size .places) (c .before .before .before .before .before .before .before .before .before .before .nodes .result) (entry (c .before) .args .size .arcs) (entry (c .before) .args .start)
-    (entry (c .before) .args .limit) (entry (c .before) .args .budget) (entry (c .before) .args .left) (c .before .before .before .arrive .last .0) (c .loop .hand) (c .loop .work) (c .loop .count)
+abbrev Under-at : tie.At-loop Inv-loop μ-loop → Type 0
+Under-at c =
+    let a = entry (c .before) .args in
+    Underway (a .size .places) (nodes (c .before)) (a .size .arcs) (a .start) (a .limit) (a .budget) (a .left) (c .before .before .before .arrive .last .0)
+    (c .loop .hand) (c .loop .work) (c .loop .count)
+
+under : (c : tie.At-loop Inv-loop μ-loop) → Under-at c
 under c =
     let kept = c .before .before .before .arrive .kept .0 ∙ c .before .before .before .before .before .before .before .before .clear .kept .0 in
     record { ask = searches.ask-same _ _ _ _ _ (entry (c .before) .pre) _ (same-map (c .before)) kept; search = c .loop .inv }
 
-taken : (c : tie.Else1 Inv-loop μ-loop)
-    → Taken (entry (c .before .before .before .before .before) .args .size .places) (c .before .before .before .before .before .before .before .before .before .before .before .before .before .before .nodes .result) (entry (c .before .before .before .before .before) .args .size .arcs) (entry (c .before .before .before .before .before) .args .start)
-    (entry (c .before .before .before .before .before) .args .limit) (entry (c .before .before .before .before .before) .args .budget) (entry (c .before .before .before .before .before) .args .left) (c .before .before .before .before .before .before .before .arrive .last .0) (c .before .before .before .before .loop .hand) (c .before .before .before .before .loop .work) (c .before .before .before .before .loop .count)
-    (placeOf (c .before .least .result)) (keyOf (c .before .least .result))
+-- what the open list gives as its first
+first : (c : tie.After-place-of Inv-loop μ-loop)
+    → Least (keysOf (nodes (c .before .before .before .before .before .before)) (c .before .before .before .before .before .loop .hand) (part (entry (c .before .before .before .before .before .before) .args .size .places) (openEnd (entry (c .before .before .before .before .before .before) .args .size .places) (nodes (c .before .before .before .before .before .before))) (c .before .before .before .before .before .loop .work)))
+    (c .place-of .result) (c .before .key-of .result)
 unfolding part
-taken c =
-    let least = c .before .least in
-    searches.taken (under (c .before .before .before .before)) _ _ (least .ensures) (omega (arith, least .ok, c .if1 .left))
+first c = rw (c .place-of .ensures, c .before .key-of .ensures) (rw (size (c .before .before .before .before .before .before)) at (c .before .before .least .ensures))
+
+abbrev Taken-at : tie.Else1 Inv-loop μ-loop → Type 0
+Taken-at c =
+    let loop = c .before .before .before .before .before .before in
+    let a = entry (loop .before) .args in
+    Taken (a .size .places) (nodes (loop .before)) (a .size .arcs) (a .start) (a .limit) (a .budget) (a .left) (loop .before .before .before .arrive .last .0)
+    (loop .loop .hand) (loop .loop .work) (loop .loop .count) (c .before .place-of .result) (c .before .before .key-of .result)
+
+taken : (c : tie.Else1 Inv-loop μ-loop) → Taken-at c
+taken c = searches.taken (under (c .before .before .before .before .before .before)) _ _ (first (c .before)) (omega (arith, c .if1 .left))
 
 nodes-requires : tie.Need-nodes-requires Inv-loop μ-loop
 nodes-requires c κs = searches.ask-places _ _ _ _ _ (c .before .pre)
 
-mul-end : tie.Need-mul-end Inv-loop μ-loop
-mul-end c = search needs
+words-requires : tie.Need-words-requires Inv-loop μ-loop
+words-requires c κs = c .nodes .ensures .nodes
 
 add-end : tie.Need-add-end Inv-loop μ-loop
 add-end c = search needs
 
-add-end-2 : tie.Need-add-end-2 Inv-loop μ-loop
-add-end-2 c = search needs
-
 clear-requires : tie.Need-clear-requires Inv-loop μ-loop
-clear-requires c κs = searches.ask-room _ _ _ _ _ (c .before .before .before .pre) _ (c .before .nodes .ensures)
+clear-requires c κs = searches.ask-room _ _ _ _ _ (c .before .before .before .before .pre) _ (c .before .before .nodes .ensures)
 
 empty-requires : tie.Need-empty-requires Inv-loop μ-loop
 empty-requires c κs = search needs
@@ -68,13 +86,13 @@ empty-requires c κs = search needs
 arrive-requires : tie.Need-arrive-requires Inv-loop μ-loop
 arrive-requires c κs =
     let clear = c .before .before .before .before .clear in
-    searches.start-arrives _ _ _ _ _ (c .before .before .before .before .before .before .before .before .pre) _ (c .before .before .before .before .before .before .nodes .ensures) _ (clear .ensures) (clear .kept .0) _ (c .empty .ensures)
+    searches.start-arrives _ _ _ _ _ (c .before .before .before .before .before .before .before .before .before .pre) _ (c .before .before .before .before .before .before .before .nodes .ensures) _ (clear .ensures) (clear .kept .0) _ (c .empty .ensures)
 
 loop-holds : tie.Need-loop-holds Inv-loop μ-loop
 loop-holds c =
     let clear = c .before .before .before .before .before .before .before .clear in
     let arrive = c .before .before .arrive in
-    searches.searching-starts _ _ _ _ _ _ (c .before .before .before .before .before .before .before .before .before .before .before .pre) (c .before .before .before .before .before .before .before .before .before .nodes .ensures) _ (clear .ensures) (clear .kept .0) _ (c .before .before .before .empty .ensures) _ _ (arrive .ensures) (arrive .kept .0) _ _
+    searches.searching-starts _ _ _ _ _ _ (entry c .pre) (c .before .before .before .before .before .before .before .before .before .before .nodes .ensures) _ (clear .ensures) (clear .kept .0) _ (c .before .before .before .empty .ensures) _ _ (arrive .ensures) (arrive .kept .0) _ _
 
 mul-least : tie.Need-mul-least Inv-loop μ-loop
 mul-least c = search needs
@@ -90,13 +108,19 @@ part-least-end c = search needs
 
 least-requires : tie.Need-least-requires Inv-loop μ-loop
 unfolding part
-least-requires c κs = searches.search-list (under (c .before .before))
+least-requires c κs = rw (size (c .before .before .before)) (searches.search-list (under (c .before .before)))
 
-cast-d : tie.Need-cast-d Inv-loop μ-loop
-cast-d c = search needs
+key-of-requires : tie.Need-key-of-requires Inv-loop μ-loop
+key-of-requires c κs = search needs
+
+place-of-requires : tie.Need-place-of-requires Inv-loop μ-loop
+place-of-requires c κs = search needs
+
+cast-place : tie.Need-cast-place Inv-loop μ-loop
+cast-place c = search needs
 
 all-settled-requires : tie.Need-all-settled-requires Inv-loop μ-loop
-all-settled-requires c κs = searches.search-labelled (under (c .before .before .before .before .before))
+all-settled-requires c κs = searches.search-labelled (under (c .before .before .before .before .before .before .before))
 
 same-length : tie.Need-same-length Inv-loop μ-loop
 same-length c = search needs
@@ -104,9 +128,9 @@ same-length c = search needs
 returns : tie.Need-returns Inv-loop μ-loop
 unfolding part
 returns c =
-    let search = under (c .before .before .before .before .before .before) in
-    let none = searches.none-open search _ _ (c .before .before .before .least .ensures) (omega (arith, c .before .before .if1 .taken)) in
-    answers.answered-same _ _ _ _ _ _ _ _ _ (same-map (c .before .before .before .before .before .before .before)) (answers.answered-settled search none _ (c .all-settled .ensures))
+    let search = under (c .before .before .before .before .before .before .before .before) in
+    let none = searches.none-open search _ _ (first (c .before .before .before)) (omega (arith, c .before .before .if1 .taken)) in
+    answers.answered-same _ _ _ _ _ _ _ _ _ (same-map (c .before .before .before .before .before .before .before .before .before)) (answers.answered-settled search none _ (c .all-settled .ensures))
 
 goals-at-requires : tie.Need-goals-at-requires Inv-loop μ-loop
 goals-at-requires c κs = search needs
@@ -120,8 +144,8 @@ mul-if2 c = search needs
 slice-read-if2 : tie.Need-slice-read-if2 Inv-loop μ-loop
 slice-read-if2 c = omega (arith, (taken (c .before .before)) .place)
 
-cast-t36 : tie.Need-cast-t36 Inv-loop μ-loop
-cast-t36 c = search needs
+cast-t34 : tie.Need-cast-t34 Inv-loop μ-loop
+cast-t34 c = search needs
 
 same-length-2 : tie.Need-same-length-2 Inv-loop μ-loop
 same-length-2 c = search needs
@@ -130,7 +154,7 @@ returns-2 : tie.Need-returns-2 Inv-loop μ-loop
 returns-2 c =
     let t = (taken (c .before .before .before)) in
     let goal = searches.taken-goal t _ (c .before .before .goals-at .ensures) (c .if2 .taken) in
-    answers.answered-same _ _ _ _ _ _ _ _ _ (same-map (c .before .before .before .before .before .before .before .before)) (answers.answered-goal (t .under) (t .first) goal)
+    answers.answered-same _ _ _ _ _ _ _ _ _ (same-map (c .before .before .before .before .before .before .before .before .before .before)) (answers.answered-goal (t .under) (t .first) goal)
 
 same-length-3 : tie.Need-same-length-3 Inv-loop μ-loop
 same-length-3 c = search needs
@@ -139,7 +163,7 @@ returns-3 : tie.Need-returns-3 Inv-loop μ-loop
 returns-3 c =
     let t = (taken (c .before .before .before .before)) in
     let no-goal = searches.taken-no-goal t _ (c .before .before .before .goals-at .ensures) (c .before .if2 .left) in
-    answers.answered-same _ _ _ _ _ _ _ _ _ (same-map (c .before .before .before .before .before .before .before .before .before)) (answers.answered-over (t .under) (t .first) no-goal (c .if3 .taken))
+    answers.answered-same _ _ _ _ _ _ _ _ _ (same-map (c .before .before .before .before .before .before .before .before .before .before .before)) (answers.answered-over (t .under) (t .first) no-goal (c .if3 .taken))
 
 same-length-4 : tie.Need-same-length-4 Inv-loop μ-loop
 same-length-4 c = search needs
@@ -148,7 +172,7 @@ returns-4 : tie.Need-returns-4 Inv-loop μ-loop
 returns-4 c =
     let t = (taken (c .before .before .before .before .before)) in
     let no-goal = searches.taken-no-goal t _ (c .before .before .before .before .goals-at .ensures) (c .before .before .if2 .left) in
-    answers.answered-same _ _ _ _ _ _ _ _ _ (same-map (c .before .before .before .before .before .before .before .before .before .before)) (answers.answered-spent (t .under) (t .first) no-goal (c .before .if3 .left) (c .if4 .taken))
+    answers.answered-same _ _ _ _ _ _ _ _ _ (same-map (c .before .before .before .before .before .before .before .before .before .before .before .before)) (answers.answered-spent (t .under) (t .first) no-goal (c .before .if3 .left) (c .if4 .taken))
 
 mul-close : tie.Need-mul-close Inv-loop μ-loop
 mul-close c = search needs
@@ -165,17 +189,20 @@ part-close-end c = search needs
 close-requires : tie.Need-close-requires Inv-loop μ-loop
 unfolding part
 close-requires c κs =
-    let t = (taken (c .before .before .before .before .before .before)) in
-    expansions.close-asked _ _ _ _ _ (t .under .search .coherent) (t .place)
+    let turn = c .before .before .before .before .before .before in
+    let t = taken turn in
+    rw (size (turn .before .before .before .before .before .before .before)) (expansions.close-asked _ _ _ _ _ (t .under .search .coherent) (t .place))
 
 expand-requires : tie.Need-expand-requires Inv-loop μ-loop
 unfolding part
 expand-requires c κs =
     let close = c .before .before .before .close in
-    expansions.turn-expands (taken (c .before .before .before .before .before .before .before .before .before .before)) _ _ (close .kept .0) (close .ensures)
+    let turn = c .before .before .before .before .before .before .before .before .before .before in
+    let is = size (turn .before .before .before .before .before .before .before) in
+    rw is (expansions.turn-expands (taken turn) _ _ (rw is at (close .kept .0)) (rw is at (close .ensures)))
 
 add-count : tie.Need-add-count Inv-loop μ-loop
-add-count c = omega (arith, under (c .before .before .before .before .before .before .before .before .before .before .before .before .before .before .before .before .before) .search .lasts, c .before .before .before .before .before .before .before .before .if4 .left, c .before .before .before .before .before .before .before .before .before .before .before .before .before .before .before .before .before .before .before .before .before .before .before .before .before .before .before .before .before .fits .left)
+add-count c = omega (arith, under (c .before .before .before .before .before .before .before .before .before .before .before .before .before .before .before .before .before .before .before) .search .lasts, c .before .before .before .before .before .before .before .before .if4 .left, c .before .before .before .before .before .before .before .before .before .before .before .before .before .before .before .before .before .before .before .before .before .before .before .before .before .before .before .before .before .before .before .before .fits .left)
 
 loop-less : tie.Need-loop-less Inv-loop μ-loop
 loop-less c = omega (arith, expansions.count-below (taken (c .before .before .before .before .before .before .before .before .before .before .before .before .before)))
@@ -185,9 +212,11 @@ unfolding part
 loop-again c =
     let close = c .before .before .before .before .before .before .close in
     let expand = c .before .before .expand in
-    let t = (taken (c .before .before .before .before .before .before .before .before .before .before .before .before .before)) in
+    let turn = c .before .before .before .before .before .before .before .before .before .before .before .before .before in
+    let t = taken turn in
+    let is = size (turn .before .before .before .before .before .before .before) in
     let no-goal = searches.taken-no-goal t _ (c .before .before .before .before .before .before .before .before .before .before .before .before .goals-at .ensures) (c .before .before .before .before .before .before .before .before .before .before .if2 .left) in
-    expansions.searching-on t _ _ (close .kept .0) (close .ensures) no-goal _ _ (expand .ensures) (expand .kept .0) (c .before .before .before .before .before .before .before .before .before .if3 .left) (c .before .before .before .before .before .before .before .before .if4 .left)
+    expansions.searching-on t _ _ (rw is at (close .kept .0)) (rw is at (close .ensures)) no-goal _ _ (rw is at (expand .ensures)) (rw is at (expand .kept .0)) (c .before .before .before .before .before .before .before .before .before .if3 .left) (c .before .before .before .before .before .before .before .before .if4 .left)
 
 pub query-spec : {M : Type 1} → statement M
 query-spec =
@@ -196,9 +225,8 @@ query-spec =
     Inv-loop
     μ-loop
     nodes-requires
-    mul-end
+    words-requires
     add-end
-    add-end-2
     clear-requires
     empty-requires
     arrive-requires
@@ -208,7 +236,9 @@ query-spec =
     part-least-start
     part-least-end
     least-requires
-    cast-d
+    key-of-requires
+    place-of-requires
+    cast-place
     all-settled-requires
     same-length
     returns
@@ -216,7 +246,7 @@ query-spec =
     add-if2
     mul-if2
     slice-read-if2
-    cast-t36
+    cast-t34
     same-length-2
     returns-2
     same-length-3

@@ -8,14 +8,14 @@ use borrow.Author.Needs.{needs}
 use lib.ListN.{length, getD}
 use Rattle.map.specs.Layout.{problemAt}
 use Rattle.model.specs.Rounds.{trace}
-use Rattle.search.specs.Underway.{Searching}
+use Rattle.search.specs.Underway.{BetweenQueries}
 use Rattle.search.proofs.RoundTurns as turns
 use Rattle.search.proofs.rounds.search.Statement.{statement}
 use Rattle.search.proofs.rounds.search.Tie as tie
 
 abbrev Inv-loop : tie.InvT-loop
 Inv-loop work₀ size start allowance n round₀ total₀ queries₀ work round total queries =
-    Searching n start allowance work₀ work round total queries
+    BetweenQueries n start allowance work₀ work round total queries
 
 abbrev μ-loop : tie.MeasureT-loop
 μ-loop work₀ size start allowance n round₀ total₀ queries₀ work round total queries =
@@ -33,7 +33,7 @@ turn : (c : tie.After-query Inv-loop μ-loop) → Turn-at c
 turn c =
     record {
       holds = c .before .before .before .before .before .before .before .pre;
-      searching = c .before .before .before .loop .inv;
+      between = c .before .before .before .loop .inv;
       limit-is = c .before .before .limit-of .ensures;
       answered = c .query .ensures;
       same-length = c .query .kept .0;
@@ -70,34 +70,38 @@ query-requires c κs =
     let loop = c .before .before in
     turns.askable (loop .before .before .before .before .pre) (loop .loop .inv) _ (c .before .limit-of .ensures)
 
+add-total : tie.Need-add-total Inv-loop μ-loop
+add-total c = record { fits = omega (arith, turns.total-within (turn (c .before .before .before))) }
+
 same-length : tie.Need-same-length Inv-loop μ-loop
 same-length c = search needs
 
 returns : tie.Need-returns Inv-loop μ-loop
-returns c = turns.turn-spent (turn (c .before .before .before)) (c .if1 .taken)
+returns c = turns.turn-spent (turn (c .before .before .before .before)) (c .if1 .taken)
 
-add-total : tie.Need-add-total Inv-loop μ-loop
-add-total c = record { fits = omega (arith, turns.total-within (turn (c .before .before .before .before)) (c .before .if1 .left)) }
+after-requires : tie.Need-after-requires Inv-loop μ-loop
+after-requires c κs =
+    let t = turn (c .before .before .before .before) in
+    omega (arith, turns.budget-below (t .holds) (t .between))
 
 enum-told : tie.Need-enum-told Inv-loop μ-loop
 enum-told c = search needs
 
 found-requires : tie.Need-found-requires Inv-loop μ-loop
 found-requires c κs =
-    let told = c .before in
-    let left = told .before .before .before in
-    let query = left .before .before .before in
-    let label-below = query .query .ensures .found (left .if1 .left) (told .enum-told .given .1) .label-below in
-    turns.turn-arrived (turn query) (left .if1 .left) (told .enum-told .given .1) label-below
+    let after = c .before .before .before in
+    let t = turn (after .before .before .before .before .before) in
+    turns.turn-goal t (after .before .if1 .left) _ (after .after .ensures) (c .before .enum-told .given .1)
 
 same-length-2 : tie.Need-same-length-2 Inv-loop μ-loop
 same-length-2 c = search needs
 
 returns-2 : tie.Need-returns-2 Inv-loop μ-loop
 returns-2 c =
-    let told = c .before .before .before .before in
-    let left = told .before .before .before in
-    turns.turn-routed (turn (left .before .before .before)) (left .if1 .left) _ _ (told .enum-told .given .1) (c .before .before .found .ensures)
+    let after = c .before .before .before .before .before .before in
+    let t = turn (after .before .before .before .before .before) in
+    let told = c .before .before .before .before .enum-told .given .1 in
+    turns.turn-routed t (after .before .if1 .left) _ (after .after .ensures) _ _ told (c .before .before .found .ensures)
 
 enum-told-2 : tie.Need-enum-told-2 Inv-loop μ-loop
 enum-told-2 c = search needs
@@ -107,46 +111,37 @@ same-length-3 c = search needs
 
 returns-3 : tie.Need-returns-3 Inv-loop μ-loop
 returns-3 c =
-    let left = c .before .before .before in
-    turns.turn-no-route (turn (left .before .before .before)) (left .if1 .left) (c .enum-told2 .given .1)
-
-enum-known-outcome : tie.Need-enum-known-outcome Inv-loop μ-loop
-enum-known-outcome c = search needs
-
-settle-requires : tie.Need-settle-requires Inv-loop μ-loop
-settle-requires c κs =
-    let t = turn (c .before .before .before .before .before .before .before) in
-    omega (arith, turns.budget-below (t .holds) (t .searching))
-
-loop-less : tie.Need-loop-less Inv-loop μ-loop
-loop-less c =
-    let t = turn (c .before .before .before .before .before .before .before .before) in
-    omega (arith, turns.query-left (t .holds) (t .searching))
-
-loop-again : tie.Need-loop-again Inv-loop μ-loop
-loop-again c =
-    let told = c .before .before in
-    let left = told .before .before .before in
-    turns.turn-ended (turn (left .before .before .before)) (left .if1 .left) _ _ (told .outcome .given .1) (c .settle .ensures)
+    let after = c .before .before in
+    let t = turn (after .before .before .before .before .before) in
+    turns.turn-no-route t (after .before .if1 .left) _ (after .after .ensures) (c .enum-told2 .given .1)
 
 enum-told-3 : tie.Need-enum-told-3 Inv-loop μ-loop
 enum-told-3 c = search needs
 
-settle-requires-2 : tie.Need-settle-requires-2 Inv-loop μ-loop
-settle-requires-2 c κs =
-    let t = turn (c .before .before .before .before .before .before) in
-    omega (arith, turns.budget-below (t .holds) (t .searching))
+loop-less : tie.Need-loop-less Inv-loop μ-loop
+loop-less c =
+    let t = turn (c .before .before .before .before .before .before .before) in
+    omega (arith, turns.query-left (t .holds) (t .between))
+
+loop-again : tie.Need-loop-again Inv-loop μ-loop
+loop-again c =
+    let after = c .before .before in
+    let t = turn (after .before .before .before .before .before) in
+    turns.turn-ended t (after .before .if1 .left) _ (after .after .ensures) (c .enum-told3 .given .1)
+
+enum-told-4 : tie.Need-enum-told-4 Inv-loop μ-loop
+enum-told-4 c = search needs
 
 loop-less-2 : tie.Need-loop-less-2 Inv-loop μ-loop
 loop-less-2 c =
     let t = turn (c .before .before .before .before .before .before .before) in
-    omega (arith, turns.query-left (t .holds) (t .searching))
+    omega (arith, turns.query-left (t .holds) (t .between))
 
 loop-again-2 : tie.Need-loop-again-2 Inv-loop μ-loop
 loop-again-2 c =
-    let told = c .before in
-    let left = told .before .before .before in
-    turns.turn-over (turn (left .before .before .before)) (left .if1 .left) _ (told .enum-told3 .given .1) (c .settle2 .ensures)
+    let after = c .before .before in
+    let t = turn (after .before .before .before .before .before) in
+    turns.turn-over t (after .before .if1 .left) _ (after .after .ensures) (c .enum-told4 .given .1)
 
 pub search-spec : {M : Type 1} → statement M
 search-spec =
@@ -163,9 +158,10 @@ search-spec =
     add-queries
     sub-query
     query-requires
+    add-total
     same-length
     returns
-    add-total
+    after-requires
     enum-told
     found-requires
     same-length-2
@@ -173,11 +169,9 @@ search-spec =
     enum-told-2
     same-length-3
     returns-3
-    enum-known-outcome
-    settle-requires
+    enum-told-3
     loop-less
     loop-again
-    enum-told-3
-    settle-requires-2
+    enum-told-4
     loop-less-2
     loop-again-2)

@@ -1,0 +1,42 @@
+-- The record that a query leaves, outcome by outcome. Assumes nothing.
+use mathlib.Core.Path.{_≡_, refl, sym, _∙_}
+use mathlib.Core.Option.{Option·some-injective}
+use Prim.Native.Nat.{ℕ}
+use Rattle.model.specs.Rounds.{after}
+use Rattle.model.proofs.Lists.{none-some}
+use Rattle.search.specs.Underway.{Settled, RoundAfter}
+use Rattle.search.specs.declared.High.the-variants.{At}
+use Rattle.search.specs.declared.Outcome.{Outcome}
+use Rattle.search.specs.declared.Outcome.the-variants.{Ended, Over, Found, None}
+use Rattle.search.specs.declared.Round.{Round}
+
+module _ (round : Round) (limit : ℕ) (o : Outcome) where
+  pub after-ended : (x : ℕ) (r : Round) → o ≡ Ended x → Settled x (round .high) (round .budget) (Ended x) r → RoundAfter round limit o r
+  unfolding after
+  after-ended x r f h =
+      record {
+        next = λ s e. h .round ∙ Option·some-injective _ _ (rw f at e);
+        finished = λ e. none-some (sym (rw f at e));
+        carries = h .carries ∙ sym f;
+      }
+
+  pub after-over : (r : Round) → o ≡ Over → Settled (round .low) (At limit) (round .budget) o r → RoundAfter round limit o r
+  unfolding after
+  after-over r f h =
+      record {
+        next = λ s e. h .round ∙ Option·some-injective _ _ (rw f at e);
+        finished = λ e. none-some (sym (rw f at e));
+        carries = h .carries;
+      }
+
+  -- the same round, with the outcome
+  abbrev same : Round
+  same = record { low = round .low; high = round .high; budget = round .budget; outcome = o }
+
+  pub after-found : o ≡ Found → RoundAfter round limit o same
+  unfolding after
+  after-found f = record { next = λ s e. none-some (rw f at e); finished = λ e. refl; carries = refl }
+
+  pub after-none : o ≡ None → RoundAfter round limit o same
+  unfolding after
+  after-none f = record { next = λ s e. none-some (rw f at e); finished = λ e. refl; carries = refl }
