@@ -51,6 +51,10 @@ unfolding judge
 judge-cost true b n o e = le-refl b
 judge-cost false b n o e = ltb-false b n e
 
+-- a query's length: the places that it counts where its budget lasts
+abbrev pub queryLength : Problem → ℕ → ℕ
+queryLength p C = lengthTo (firstGoal p (table p C)) (within (table p C))
+
 module _ (p : Problem) where
   abbrev sum : Arc → ℕ → ℕ
   sum a d = d + a .cost + p .estimate (a .to)
@@ -87,12 +91,9 @@ module _ (p : Problem) where
   next-limit-none t e a d c = least-none (crossings t) e (sum a d) (crossing-member t a d c)
 
   module _ (C b : ℕ) where
-    abbrev queryLength : ℕ
-    queryLength = lengthTo (firstGoal p (table p C)) (within (table p C))
-
-    outcome-says : Says (firstGoal p (table p C)) (nextLimit p (table p C)) b queryLength (query p C b .outcome)
+    outcome-says : Says (firstGoal p (table p C)) (nextLimit p (table p C)) b (queryLength p C) (query p C b .outcome)
     unfolding query queryOn
-    outcome-says = judge-says (ltb b queryLength) (firstGoal p (table p C)) (nextLimit p (table p C)) b queryLength refl
+    outcome-says = judge-says (ltb b (queryLength p C)) (firstGoal p (table p C)) (nextLimit p (table p C)) b (queryLength p C) refl
 
     pub ended-next : (x : ℕ) → query p C b .outcome ≡ ended x → (firstGoal p (table p C) ≡ none) × (nextLimit p (table p C) ≡ some x)
     ended-next x e = rw e at outcome-says
@@ -105,9 +106,9 @@ module _ (p : Problem) where
 
     pub over-exceeds : query p C b .outcome ≡ over → b < length (within (table p C))
     over-exceeds e =
-        let longer : b < queryLength = rw e at outcome-says in
+        let longer : b < queryLength p C = rw e at outcome-says in
         omega (arith, length-at-most (firstGoal p (table p C)) (within (table p C)))
 
     pub cost-at-most-budget : query p C b .cost ≤ b
     unfolding query queryOn
-    cost-at-most-budget = judge-cost (ltb b queryLength) b queryLength (notOver (firstGoal p (table p C)) (nextLimit p (table p C))) refl
+    cost-at-most-budget = judge-cost (ltb b (queryLength p C)) b (queryLength p C) (notOver (firstGoal p (table p C)) (nextLimit p (table p C))) refl

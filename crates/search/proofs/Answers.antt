@@ -24,7 +24,7 @@ use Rattle.search.proofs.Settling.{not-both, path-after}
 use Rattle.search.proofs.Front.{settled-least, labels-are-table, goal-found, goal-outcome, over-outcome, spent-cost, all-settled}
 use Rattle.search.proofs.Words.{wordOr-none, wordOr-some, labels-length}
 use Rattle.map.proofs.Held.{problem-same}
-use Rattle.search.proofs.Searches.{Underway, label-below}
+use Rattle.search.proofs.QueryUnderway.{Underway, label-below}
 
 -- the next limit that was found, as an outcome
 pub ended-none : (n count : ℕ) (w : List ℕ) (next : ℕ) → IsNextLimit n w next → next ≡ noKey → AllSettled n count w (record { spent = false; outcome = None; count = count; place = 0 })

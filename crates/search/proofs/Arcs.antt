@@ -2,21 +2,16 @@
 use mathlib.Core.Path.{_≡_, refl, sym, ap, _∙_}
 use mathlib.Core.Logic.{_⊎_, inl, inr, ⊎-elim}
 use mathlib.Core.List.{List}
-use Prim.Native.Nat.{ℕ, _+_, _*_, _/_, _%_, _^_, _≤_, _<_}
+use Prim.Native.Nat.{ℕ, _+_, _/_, _%_, _^_, _≤_, _<_}
 use native.Mathlib.Omega.{arith}
 use native.Mathlib.Decide.{ℕ-discrete, decLt}
 use lib.ListN.{length, getD}
-use lib.Seq.{getD-set-same, getD-set-other}
 use Rattle.open_list.specs.Entry.{noKey}
-use Rattle.open_list.proofs.Laws.{keys-length}
 use Rattle.map.specs.Layout.{endsAt, estimatesAt, arcsAt, rowStart, rowEnd, arcIn, problemAt}
-use Rattle.search.specs.Area.{openWords, keys}
+use Rattle.search.specs.Area.{keys}
 use Rattle.search.specs.State.{Arrives, Arrived, Coherent, ByArc, ByArcs, Fell, Stays, Relaxed, Relaxes, Expands, Expanding}
 use Rattle.map.proofs.Held.{map-word, at-arc, estimate-word}
-
-pub coherent-length : {n m hand : ℕ} {w : List ℕ} → Coherent n m hand w → length (keys n m hand w) ≡ 7 * m + 1
-unfolding keys
-coherent-length {n} {m} {hand} {w} c = keys-length m hand (openWords n m w) (c .list)
+use Rattle.search.proofs.Coherence.{KeySet, own-key, other-key, still-coherent}
 
 -- a label that an arc may fall below is above no key that its place has
 below-key : {n m hand : ℕ} {w : List ℕ} → Coherent n m hand w → (v e : ℕ) → v < n → e < getD w v 0 → e < noKey → e ≤ getD (keys n m hand w) v 0
@@ -61,35 +56,24 @@ module _ (n m hand d x : ℕ) (w : List ℕ) (r : Relaxes n m hand d x w) where
 
   -- the arc's end is reached at a lower cost
   module _ (hand′ : ℕ) (w′ : List ℕ) (a : Arrived n m (x / 65536) (d + x % 65536) hand w hand′ w′) (len : length w′ ≡ length w) where
-    own-key : getD (keys n m hand′ w′) (x / 65536) 0 ≡ d + x % 65536
-    own-key =
-        rw (a .keys-set) (getD-set-same (keys n m hand w) (x / 65536) (d + x % 65536) 0 (omega (arith, r .arc-end, r .coherent .room .enough .keys, coherent-length (r .coherent))))
-
-    other-key : (v : ℕ) → (v ≡ x / 65536 → ⊥) → getD (keys n m hand′ w′) v 0 ≡ getD (keys n m hand w) v 0
-    other-key v q = rw (a .keys-set) (getD-set-other (keys n m hand w) (x / 65536) v (d + x % 65536) 0 q)
-
-    arrived-coherent : Coherent n m hand′ w′
-    arrived-coherent =
+    key-set : KeySet n m hand w (x / 65536) (d + x % 65536) hand′ w′
+    key-set =
         record {
-          room = record { few = r .coherent .room .few; enough = r .coherent .room .enough; words = omega (arith, r .coherent .room .words) };
+          coherent = r .coherent;
+          place = r .arc-end;
+          keys-set = a .keys-set;
           list = a .list;
-          key-label = λ v h. go v h (ℕ-discrete v (x / 65536));
-          beyond = λ v h k. other-key v (λ q. omega (arith, r .arc-end)) ∙ r .coherent .beyond v h k;
+          same-length = len;
+          other-labels = a .other-labels;
+          label = inr (sym (a .label));
         }
-      where
-        go : (v : ℕ) → v < n → Dec (v ≡ x / 65536) → (getD (keys n m hand′ w′) v 0 ≡ noKey) ⊎ (getD (keys n m hand′ w′) v 0 ≡ getD w′ v 0)
-        go v h (yes q) = inr (rw q (own-key ∙ sym (a .label)))
-        go v h (no q) =
-            let key = other-key v q in
-            let label = a .other-labels v h q in
-            ⊎-elim (λ e. inl (key ∙ e)) (λ e. inr (key ∙ e ∙ sym label)) (r .coherent .key-label v h)
 
     pub relax-falls : (limit : ℕ) → d + x % 65536 < getD w (x / 65536) 0 → d + x % 65536 + getD w (estimatesAt n + x / 65536) 0 ≤ limit
         → Relaxed n m (ByArc n limit d x w) hand w hand′ w′
     relax-falls limit l k =
         record {
           same-map = a .same-map;
-          coherent = arrived-coherent;
+          coherent = still-coherent key-set;
           reached = λ v e h b. let here = ap (λ (i : ℕ). getD w′ i 0) (b .ends) in omega (arith, a .label, b .sum);
           moved = λ v h. go v h (ℕ-discrete v (x / 65536));
         }
@@ -98,10 +82,10 @@ module _ (n m hand d x : ℕ) (w : List ℕ) (r : Relaxes n m hand d x w) where
         go v h (yes q) =
             rw q (inr (record {
               lower = omega (arith, a .label);
-              key = own-key ∙ sym (a .label);
+              key = own-key key-set ∙ sym (a .label);
               by = rw (a .label) (record { ends = refl; sum = refl; within = k });
             }))
-        go v h (no q) = inl (record { label = a .other-labels v h q; key = other-key v q })
+        go v h (no q) = inl (record { label = a .other-labels v h q; key = other-key key-set v q })
 
 -- relaxing twice
 module _ (n m : ℕ) (A B C : ℕ → ℕ → Type 0) (split : (v e : ℕ) → C v e → A v e ⊎ B v e) (first : (v e : ℕ) → A v e → C v e) (second : (v e : ℕ) → B v e → C v e)

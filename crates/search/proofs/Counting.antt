@@ -1,22 +1,53 @@
 -- How many places below n pass a test, and how many keys of a table do. Assumes nothing.
-use mathlib.Core.Path.{_≡_, refl}
+use mathlib.Core.Path.{_≡_, refl, ap, _∙_}
 use mathlib.Core.Bool.{Bool, true, false, cond}
 use mathlib.Core.List.{List, [], _∷_}
 use mathlib.Core.Option.{Option, none, some}
-use Prim.Native.Nat.{ℕ, zero, suc, _+_, _<_}
+use Prim.Native.Nat.{ℕ, zero, suc, _+_, _≤_, _<_}
 use native.Mathlib.Nat.{add-zero, add-suc, suc-add, zero-add}
+use native.Mathlib.Decide.{ℕ-discrete}
 use native.Mathlib.Omega.{arith}
 use lib.ListN.{length}
 use Rattle.model.specs.Lists.{filter, consIf}
 use Rattle.model.specs.Costs.{Table, costAt}
 use Rattle.model.specs.Query.{Key, keyOf, keysFrom, within}
-use Rattle.search.specs.Front.{countBelow}
+use Rattle.search.specs.Front.{also, countBelow}
+use Rattle.search.proofs.Settling.{also-same, also-other}
 
 -- tests that agree below n count the same
-pub count-same : (f g : ℕ → Bool) (n : ℕ) → ((i : ℕ) → i < n → f i ≡ g i) → countBelow f n ≡ countBelow g n
+count-same : (f g : ℕ → Bool) (n : ℕ) → ((i : ℕ) → i < n → f i ≡ g i) → countBelow f n ≡ countBelow g n
 unfolding countBelow
 count-same f g zero h = refl
 count-same f g (suc n) h = rw (h n (omega arith), count-same f g n (λ i l. h i (omega arith)))
+
+pub count-at-most : (f : ℕ → Bool) (n : ℕ) → countBelow f n ≤ n
+unfolding countBelow
+count-at-most f zero = omega arith
+count-at-most f (suc n) = go (f n) (count-at-most f n)
+  where
+    go : (b : Bool) → countBelow f n ≤ n → cond b (suc (countBelow f n)) (countBelow f n) ≤ suc n
+    go true h = omega arith
+    go false h = omega arith
+
+pub count-none : (n : ℕ) → countBelow (λ v. false) n ≡ 0
+unfolding countBelow
+count-none zero = refl
+count-none (suc n) = count-none n
+
+-- one place more is settled
+pub count-also : (settled : ℕ → Bool) (v n : ℕ) → v < n → settled v ≡ false → countBelow (also settled v) n ≡ suc (countBelow settled n)
+unfolding countBelow
+count-also settled v zero h e = absurd (omega arith)
+count-also settled v (suc n) h e = go (ℕ-discrete n v) (λ l. count-also settled v n l e)
+  where
+    joins : (b : Bool) (k : ℕ) → cond b (suc (suc k)) (suc k) ≡ suc (cond b (suc k) k)
+    joins true k = refl
+    joins false k = refl
+
+    go : Dec (n ≡ v) → (v < n → countBelow (also settled v) n ≡ suc (countBelow settled n))
+        → countBelow (also settled v) (suc n) ≡ suc (countBelow settled (suc n))
+    go (yes q) rest = rw (also-same settled v n q, ap settled q ∙ e) (ap suc (count-same _ settled n (λ i l. also-other settled v i (omega arith))))
+    go (no q) rest = rw (also-other settled v n q, rest (omega arith)) (joins (settled n) (countBelow settled n))
 
 -- place 0 is counted apart
 count-first : (f : ℕ → Bool) (n : ℕ) → countBelow f (suc n) ≡ cond (f 0) 1 0 + countBelow (λ i. f (suc i)) n
@@ -62,8 +93,3 @@ pub within-counted : (test : Key → Bool) (f : ℕ → Bool) (t : Table)
     → length (filter test (within t)) ≡ countBelow f (length t)
 unfolding within
 within-counted test f t inside outside = keysFrom-counted test f 0 t (λ i d q. rw zero-add (inside i d q)) outside
-
-pub filter-all : {A : Type 0} (xs : List A) → filter (λ (x : A). true) xs ≡ xs
-unfolding filter
-filter-all [] = refl
-filter-all (x ∷ xs) = rw (filter-all xs)

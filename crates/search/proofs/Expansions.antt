@@ -2,14 +2,13 @@
 -- Assumes nothing.
 use mathlib.Core.Path.{_≡_, refl, sym, ap, subst, _∙_}
 use mathlib.Core.Logic.{_⊎_, inl, inr, ⊎-elim}
-use mathlib.Core.Bool.{Bool, true, false, cond}
+use mathlib.Core.Bool.{true}
 use mathlib.Core.List.{List}
 use mathlib.Core.Option.{Option, some}
-use Prim.Native.Nat.{ℕ, zero, suc, _+_, _-_, _^_, _≤_, _<_}
+use Prim.Native.Nat.{ℕ, _+_, _-_, _^_, _≤_, _<_}
 use native.Mathlib.Omega.{arith}
 use native.Mathlib.Decide.{ℕ-discrete, decLt}
-use lib.ListN.{length, getD, set}
-use lib.Seq.{getD-set-same, getD-set-other}
+use lib.ListN.{length, getD}
 use borrow.Rule.Slice.PartMut.{putMid}
 use Rattle.area.specs.Part.{part}
 use Rattle.open_list.specs.Entry.{noKey}
@@ -18,32 +17,24 @@ use Rattle.map.specs.Layout.{arcsAt, rowStart, rowEnd, arcIn, Holds, problemAt}
 use Rattle.model.specs.Problem.{Arc, IsArc, IsGoal}
 use Rattle.model.specs.Costs.{costAt}
 use Rattle.model.specs.Terms.{AtMost}
-use Rattle.search.specs.Front.{FirstOpen, Expanded, also, countBelow}
+use Rattle.model.proofs.Same.{bool-ext}
+use Rattle.search.specs.Front.{FirstOpen, Expanded, also}
 use Rattle.search.specs.Area.{labels, keys, settledAt}
 use Rattle.search.specs.Query.{Askable}
 use Rattle.search.specs.State.{Coherent, ByArcs, Fell, Relaxed, Expands, Searching}
-use Rattle.search.proofs.Settling.{also-same, also-other}
-use Rattle.search.proofs.Front.{count-also, expand-front, expand-keeps}
-use Rattle.search.proofs.Words.{same-test, not-true-false, HasLabel, label-word, label-beyond, label-is, is-label, at-most, settled-is, is-settled}
+use Rattle.search.proofs.Settling.{also-same, also-other, keeps-label, next-front}
+use Rattle.search.proofs.Counting.{count-also, count-at-most}
+use Rattle.search.proofs.Words.{not-true-false, HasLabel, label-word, label-beyond, label-is, is-label, at-most, settled-is, is-settled}
 use Rattle.map.proofs.Held.{problem-same, holds-same, arc-at, at-arc, estimate-word}
 use Rattle.search.proofs.Regions.{openEnd, open-part, Back, back}
-use Rattle.search.proofs.Arcs.{coherent-length}
-use Rattle.search.proofs.Searches.{label-below, Taken}
-
-count-at-most : (f : ℕ → Bool) (n : ℕ) → countBelow f n ≤ n
-unfolding countBelow
-count-at-most f zero = omega arith
-count-at-most f (suc n) = go (f n) (count-at-most f n)
-  where
-    go : (b : Bool) → countBelow f n ≤ n → cond b (suc (countBelow f n)) (countBelow f n) ≤ suc n
-    go true h = omega arith
-    go false h = omega arith
+use Rattle.search.proofs.Coherence.{KeySet, own-key, other-key, still-coherent}
+use Rattle.search.proofs.QueryUnderway.{label-below, Taken}
 
 -- a place with the same label and the same key is settled or not as before
 settled-same : (n m h₀ : ℕ) (w₀ : List ℕ) (h : ℕ) (w : List ℕ) (v : ℕ) → (v < n → getD w v 0 ≡ getD w₀ v 0) → getD (keys n m h w) v 0 ≡ getD (keys n m h₀ w₀) v 0
     → settledAt n m h w v ≡ settledAt n m h₀ w₀ v
 settled-same n m h₀ w₀ h w v label key =
-    same-test (settledAt n m h w v) (settledAt n m h₀ w₀ v)
+    bool-ext (settledAt n m h w v) (settledAt n m h₀ w₀ v)
     (λ t. let s = settled-is n m h w v t in is-settled n m h₀ w₀ v (record { place = s .place; label = λ q. s .label (label (s .place) ∙ q); key = sym key ∙ s .key }))
     (λ t. let s = settled-is n m h₀ w₀ v t in is-settled n m h w v (record { place = s .place; label = λ q. s .label (sym (label (s .place)) ∙ q); key = key ∙ s .key }))
 
@@ -113,30 +104,18 @@ module _ (n m hand v : ℕ) (w : List ℕ) (coherent : Coherent n m hand w) (pla
     came-back : Back n m w ys (closed n m w ys)
     came-back = back n m w ys (coherent .room) len
 
-    closed-keys : keys n m hand′ (closed n m w ys) ≡ set (keys n m hand w) v noKey
+    key-set : KeySet n m hand w v noKey hand′ (closed n m w ys)
     unfolding keys
-    closed-keys = rw (came-back .list, open-part n m w) (put .keys-set)
-
-    own-key : getD (keys n m hand′ (closed n m w ys)) v 0 ≡ noKey
-    own-key = rw closed-keys (getD-set-same (keys n m hand w) v noKey 0 (omega (arith, place, coherent .room .enough .keys, coherent-length coherent)))
-
-    other-key : (u : ℕ) → (u ≡ v → ⊥) → getD (keys n m hand′ (closed n m w ys)) u 0 ≡ getD (keys n m hand w) u 0
-    other-key u q = rw closed-keys (getD-set-other (keys n m hand w) v u noKey 0 q)
-
-    pub closed-coherent : Coherent n m hand′ (closed n m w ys)
-    closed-coherent =
+    key-set =
         record {
-          room = record { few = coherent .room .few; enough = coherent .room .enough; words = omega (arith, came-back .same-length, coherent .room .words) };
+          coherent = coherent;
+          place = place;
+          keys-set = rw (came-back .list, open-part n m w) (put .keys-set);
           list = rw (came-back .list) (put .list);
-          key-label = λ u h. go u h (ℕ-discrete u v);
-          beyond = λ u h k. other-key u (λ q. omega (arith, place)) ∙ coherent .beyond u h k;
+          same-length = came-back .same-length;
+          other-labels = λ u h q. came-back .label u h;
+          label = inl refl;
         }
-      where
-        go : (u : ℕ) → u < n → Dec (u ≡ v) → (getD (keys n m hand′ (closed n m w ys)) u 0 ≡ noKey) ⊎ (getD (keys n m hand′ (closed n m w ys)) u 0 ≡ getD (closed n m w ys) u 0)
-        go u h (yes q) = inl (rw q own-key)
-        go u h (no q) =
-            let key = other-key u q in
-            ⊎-elim (λ e. inl (key ∙ e)) (λ e. inr (key ∙ e ∙ sym (came-back .label u h))) (coherent .key-label u h)
 
     -- a labelled place that is closed is settled, besides those that were
     pub closed-settled : (getD w v 0 ≡ noKey → ⊥) → (u : ℕ) → settledAt n m hand′ (closed n m w ys) u ≡ also (settledAt n m hand w) v u
@@ -144,9 +123,9 @@ module _ (n m hand v : ℕ) (w : List ℕ) (coherent : Coherent n m hand w) (pla
       where
         go : Dec (u ≡ v) → settledAt n m hand′ (closed n m w ys) u ≡ also (settledAt n m hand w) v u
         go (yes q) =
-            let settled = is-settled n m hand′ (closed n m w ys) v (record { place = place; label = λ e. l (sym (came-back .label v place) ∙ e); key = own-key }) in
+            let settled = is-settled n m hand′ (closed n m w ys) v (record { place = place; label = λ e. l (sym (came-back .label v place) ∙ e); key = own-key key-set }) in
             rw q settled ∙ sym (also-same (settledAt n m hand w) v u q)
-        go (no q) = settled-same n m hand w hand′ (closed n m w ys) u (came-back .label u) (other-key u q) ∙ sym (also-other (settledAt n m hand w) v u q)
+        go (no q) = settled-same n m hand w hand′ (closed n m w ys) u (came-back .label u) (other-key key-set u q) ∙ sym (also-other (settledAt n m hand w) v u q)
 
     pub closed-label : (u : ℕ) → costAt (labels n (closed n m w ys)) u ≡ costAt (labels n w) u
     closed-label u = go (decLt u n)
@@ -197,7 +176,7 @@ module _ {n m arcs start limit budget left : ℕ} {w₀ : List ℕ} {hand : ℕ}
     unfolding w₁
     turn-expands =
         record {
-          coherent = closed-coherent n m hand v w (s .coherent) (first-label .place) hand₁ ys len put;
+          coherent = still-coherent (key-set n m hand v w (s .coherent) (first-label .place) hand₁ ys len put);
           place = first-label .place;
           label-below = label-below (t .under) v d (f .is-labelled);
           arcs = arcs;
@@ -225,7 +204,7 @@ module _ {n m arcs start limit budget left : ℕ} {w₀ : List ℕ} {hand : ℕ}
       fell-open : (u : ℕ) → Fell n m (ByArcs n limit d (rowStart n w₁ v) (rowEnd n w₁ v) w₁) w₁ hand₂ w₂ u → u < n → also (settledAt n m hand w) v u ≡ true → ⊥
       fell-open u g h t =
           let x = labelled (ℕ-discrete u v) in
-          let keeps = expand-keeps (problemAt n start w₀) (ask .holds .valid) limit (λ u. costAt (labels n w) u) (settledAt n m hand w) (s .front) v d f
+          let keeps = keeps-label (problemAt n start w₀) (ask .holds .valid) limit (λ u. costAt (labels n w) u) (settledAt n m hand w) (s .front) v d f
           (λ u. costAt (labels n w₂) u) expanded u (x .0) t (x .1) in
           let before = label-is n w (omega (arith, s .coherent .room .words)) u (x .0) (x .1) in
           let after = label-is n w₂ (omega (arith, r .coherent .room .words)) u (x .0) keeps in
@@ -263,8 +242,8 @@ module _ {n m arcs start limit budget left : ℕ} {w₀ : List ℕ} {hand : ℕ}
             coherent = r .coherent;
             front =
                 rw same
-                (expand-front (problemAt n start w₀) (ask .holds .valid) limit (λ u. costAt (labels n w) u) (settledAt n m hand w) (s .front) v d f no-goal
-                (λ u. costAt (labels n w₂) u) expanded);
+                (next-front (problemAt n start w₀) (ask .holds .valid) limit (λ u. costAt (labels n w) u) (settledAt n m hand w) (s .front) v d f
+                (λ u. costAt (labels n w₂) u) expanded no-goal);
             counted = rw same (omega (arith, s .counted));
             in-budget = omega (arith, s .in-budget);
             lasts = omega (arith, s .lasts);

@@ -1,13 +1,13 @@
 -- What a uniform-cost search under way says of the table, the query's length and its outcome. Assumes nothing.
 use mathlib.Core.Path.{_≡_, refl, sym, ap, _∙_}
 use mathlib.Core.Logic.{inl, inr}
-use mathlib.Core.Bool.{Bool, true, false, false≢true, cond}
+use mathlib.Core.Bool.{Bool, true, false, false≢true}
 use mathlib.Core.List.{List, List·Memᴰ}
 use mathlib.Core.Option.{Option, none, some}
-use Prim.Native.Nat.{ℕ, zero, suc, _≤_, _<_}
+use Prim.Native.Nat.{ℕ, _≤_, _<_}
 use native.Mathlib.Nat.{le-refl}
 use native.Mathlib.Omega.{arith}
-use native.Mathlib.Decide.{ℕ-discrete, decLe}
+use native.Mathlib.Decide.{decLe}
 use lib.ListN.{length}
 use borrow.Author.Tests.{lt-ltb, le-ltb, eq-eqb}
 use Rattle.model.specs.Lists.{filter}
@@ -15,16 +15,14 @@ use Rattle.model.specs.Problem.{Problem, IsGoal, Valid}
 use Rattle.model.specs.Paths.{stay, Within}
 use Rattle.model.specs.Costs.{costAt, table}
 use Rattle.model.specs.Query.{Key, within, precedes, firstGoal, lengthTo, nextLimit, ended, over, found, nothing, notOver, judge, queryOn, query}
-use Rattle.model.proofs.Lists.{none-some, filter-fewer, filter-shorter}
+use Rattle.model.proofs.Lists.{none-some, filter-all, filter-fewer, filter-shorter}
 use Rattle.model.proofs.LeastCosts.{table-length, entry-path}
-use Rattle.model.proofs.Keys.{NotBefore, precedes-false, not-precedes, precedes-true, key-entry, IsFirstGoal, first-goal-some, first-goal-none}
-use Rattle.search.specs.Front.{Before, Front, FirstOpen, NoneOpen, Expanded, also, countBelow}
-use Rattle.search.proofs.Counting.{count-same, within-counted, filter-all}
-use Rattle.search.proofs.Settling.{not-both, cannot-fail, also-same, also-other, before-below}
-use Rattle.search.proofs.Settling.{least-label, path-settled, path-after, keeps-label, next-front}
-
-abbrev key : ℕ → ℕ → Key
-key d v = record { cost = d; place = v }
+use Rattle.model.proofs.Keys.{key, NotBefore, precedes-false, not-precedes, precedes-true, key-entry, IsFirstGoal, first-goal-some, first-goal-none}
+use Rattle.model.proofs.Queries.{queryLength}
+use Rattle.search.specs.Front.{Before, Front, FirstOpen, NoneOpen, countBelow}
+use Rattle.search.proofs.Counting.{within-counted}
+use Rattle.search.proofs.Settling.{not-both, cannot-fail, before-below}
+use Rattle.search.proofs.Settling.{least-label, path-settled, path-after}
 
 before-precedes : {x u y w : ℕ} → Before x u y w → precedes (key x u) (key y w) ≡ true
 unfolding precedes
@@ -41,9 +39,6 @@ precedes-trans i j k e h = cannot-fail (precedes i k) never
         let ik = precedes-false i k q in
         let low : j .place ≤ i .place = omega (arith, kj .places (omega arith), ik .places (omega arith)) in
         not-both e (not-precedes i j (record { costs = omega arith; places = λ r. low }))
-
-abbrev queryLength : Problem → ℕ → ℕ
-queryLength p C = lengthTo (firstGoal p (table p C)) (within (table p C))
 
 module _ (p : Problem) (C b : ℕ) where
   query-over : b < queryLength p C → (query p C b .outcome ≡ over) × (query p C b .cost ≡ b)
@@ -69,25 +64,6 @@ begin-front p C label ok h s only =
       no-goal = λ g i. refl;
     }
 
-pub count-none : (n : ℕ) → countBelow (λ v. false) n ≡ 0
-unfolding countBelow
-count-none zero = refl
-count-none (suc n) = count-none n
-
-pub count-also : (settled : ℕ → Bool) (v n : ℕ) → v < n → settled v ≡ false → countBelow (also settled v) n ≡ suc (countBelow settled n)
-unfolding countBelow
-count-also settled v zero h e = absurd (omega arith)
-count-also settled v (suc n) h e = go (ℕ-discrete n v) (λ l. count-also settled v n l e)
-  where
-    joins : (b : Bool) (k : ℕ) → cond b (suc (suc k)) (suc k) ≡ suc (cond b (suc k) k)
-    joins true k = refl
-    joins false k = refl
-
-    go : Dec (n ≡ v) → (v < n → countBelow (also settled v) n ≡ suc (countBelow settled n))
-        → countBelow (also settled v) (suc n) ≡ suc (countBelow settled (suc n))
-    go (yes q) rest = rw (also-same settled v n q, ap settled q ∙ e) (ap suc (count-same _ settled n (λ i l. also-other settled v i (omega arith))))
-    go (no q) rest = rw (also-other settled v n q, rest (omega arith)) (joins (settled n) (countBelow settled n))
-
 module _ (p : Problem) (ok : Valid p) (C : ℕ) (label : ℕ → Option ℕ) (settled : ℕ → Bool) (front : Front p C label settled) where
   -- a settled place has its D,
   pub settled-least : (u d : ℕ) → settled u ≡ true → label u ≡ some d → costAt (table p C) u ≡ some d
@@ -107,16 +83,6 @@ module _ (p : Problem) (ok : Valid p) (C : ℕ) (label : ℕ → Option ℕ) (se
       go none (some x) q r =
           let is = front .labelled v (path-settled p ok C label settled front none-open v x (entry-path p C v x r)) in
           none-some (sym q ∙ is .1)
-
-  -- The first open place, expanded, is settled, and the search goes on.
-  pub expand-front : (v d : ℕ) → FirstOpen label settled v d → (IsGoal p v → ⊥) → (after : ℕ → Option ℕ) → Expanded p C v d label after
-      → Front p C after (also settled v)
-  expand-front v d f no-goal after x = next-front p ok C label settled front v d f after x no-goal
-
-  -- A settled place keeps its label when the first open one is expanded; labels of what is then open are above or after it.
-  pub expand-keeps : (v d : ℕ) → FirstOpen label settled v d → (after : ℕ → Option ℕ) → Expanded p C v d label after
-      → (u x : ℕ) → also settled v u ≡ true → label u ≡ some x → after u ≡ some x
-  expand-keeps = keeps-label p ok C label settled front
 
   not-within : (u : ℕ) → costAt (table p C) u ≡ none → settled u ≡ false
   not-within u e = go (settled u) refl
@@ -174,7 +140,7 @@ module _ (p : Problem) (ok : Valid p) (C : ℕ) (label : ℕ → Option ℕ) (se
 
   -- A place that is no goal is open: the query's length is above the number settled.
   pub longer : (v d : ℕ) → FirstOpen label settled v d → (IsGoal p v → ⊥)
-      → countBelow settled (p .places) < lengthTo (firstGoal p (table p C)) (within (table p C))
+      → countBelow settled (p .places) < queryLength p C
   unfolding lengthTo
   longer v d f n = rw (← settled-counted v d f) (go (firstGoal p (table p C)) refl)
     where

@@ -1,36 +1,20 @@
 -- The least of what a function gives of the elements of a list, kept in a word as the elements are passed. Assumes nothing.
-use mathlib.Core.Path.{_≡_, refl, sym, ap, _∙_}
+use mathlib.Core.Path.{_≡_, refl, sym, _∙_}
 use mathlib.Core.Logic.{_⊎_, inl, inr}
 use mathlib.Core.Bool.{Bool, true, false, cond}
 use mathlib.Core.List.{List, [], _∷_, _++_, map, append-nil, List·Memᴰ, List·Memᴰ·head, List·Memᴰ·tail}
 use mathlib.Core.List.{List·Memᴰ·append-cases, List·Memᴰ·eq-of-singleton, Memᴰ·append-left, Memᴰ·append-right}
-use mathlib.Core.Option.{Option, none, some, Option·some-injective}
+use mathlib.Core.Option.{Option, none, some}
 use Prim.Native.Nat.{ℕ, _≤_, _<_}
 use native.Mathlib.Decide.{ℕ-discrete, decLt}
 use native.Mathlib.Omega.{arith}
 use lib.Dec.{ltb}
-use borrow.Author.Tests.{lt-ltb, le-ltb, ne-eqb}
+use borrow.Author.Tests.{lt-ltb, le-ltb}
 use Rattle.open_list.specs.Entry.{noKey}
 use Rattle.model.specs.Lists.{consIf, filterMap, least, leastBy, lesser}
-use Rattle.model.proofs.Lists.{none-some}
 use Rattle.model.proofs.Same.{same-least}
 use Rattle.search.specs.Area.{wordOr}
-
-pub wordOr-none : wordOr noKey ≡ none
-unfolding wordOr
-wordOr-none = refl
-
-pub wordOr-some : (x : ℕ) → (x ≡ noKey → ⊥) → wordOr x ≡ some x
-unfolding wordOr
-wordOr-some x h = rw (ne-eqb x noKey h)
-
--- a word that holds a number is that number
-word-is : (r y : ℕ) → wordOr r ≡ some y → y ≡ r
-word-is r y e = go (ℕ-discrete r noKey)
-  where
-    go : Dec (r ≡ noKey) → y ≡ r
-    go (yes q) = none-some (sym wordOr-none ∙ ap wordOr (sym q) ∙ e)
-    go (no q) = Option·some-injective _ _ (sym e ∙ wordOr-some r q)
+use Rattle.search.proofs.Words.{wordOr-none, wordOr-some, wordOr-is}
 
 pub lesser-below : (r u : ℕ) (o : Option ℕ) → ((y : ℕ) → o ≡ some y → y ≤ u) → ((y : ℕ) → wordOr r ≡ some y → y ≤ u)
     → (y : ℕ) → wordOr (lesser ltb r o) ≡ some y → y ≤ u
@@ -39,7 +23,7 @@ lesser-below r u none h k y e = k y e
 lesser-below r u (some z) h k y e = go (ltb z r) e
   where
     go : (b : Bool) → wordOr (cond b z r) ≡ some y → y ≤ u
-    go true e = omega (arith, word-is z y e, h z refl)
+    go true e = omega (arith, wordOr-is z y e .0, h z refl)
     go false e = k y e
 
 module _ {A : Type 0} (f : A → Option ℕ) where
@@ -93,7 +77,7 @@ word-snoc r x xs l e = go (ℕ-discrete r noKey) ∙ sym (least-snoc xs x)
 
     go : Dec (r ≡ noKey) → wordOr (lesser ltb r (some x)) ≡ some (lesser ltb x (least xs))
     go (yes p) =
-        let nothing : least xs ≡ none = sym e ∙ ap wordOr p ∙ wordOr-none in
+        let nothing : least xs ≡ none = sym e ∙ wordOr-none r p in
         rw (nothing, p, lt-ltb x noKey l) (wordOr-some x (λ q. omega arith))
     go (no p) =
         let found : least xs ≡ some r = sym e ∙ wordOr-some r p in

@@ -1,6 +1,6 @@
 -- The least sum over the arcs passed, as arc after arc is passed, is in the end the number with which a query ends.
 -- Assumes nothing.
-use mathlib.Core.Path.{_≡_, ap, _∙_}
+use mathlib.Core.Path.{_≡_, refl, _∙_}
 use mathlib.Core.List.{List}
 use mathlib.Core.Option.{Option, none, some, Option·some-injective}
 use Prim.Native.Nat.{ℕ, suc, _+_, _/_, _%_, _≤_, _<_}
@@ -15,10 +15,11 @@ use Rattle.model.specs.Costs.{costAt}
 use Rattle.model.specs.Lists.{filterMap, leastBy, lesser}
 use Rattle.model.specs.Query.{crossing, nextLimit}
 use Rattle.model.proofs.Lists.{none-some}
-use Rattle.search.specs.Area.{wordOr, labels, Labelled, IsNextLimit}
+use Rattle.search.specs.Area.{labels, Labelled, IsNextLimit}
 use Rattle.search.specs.Scans.{passed, ArcWord, sumOf, Crossed, LimitOver, LimitRow, Limiting, LimitUpTo}
-use Rattle.search.proofs.Least.{wordOr-none, wordOr-some, word-step}
-use Rattle.search.proofs.Rows.{label-at, no-label, has-row, row-nothing, row-begins, row-goes-on, arc-word, passed-start, passed-end, passed-step}
+use Rattle.search.proofs.Words.{wordOr-none, wordOr-some, label-at, unlabelled}
+use Rattle.search.proofs.Least.{word-step}
+use Rattle.search.proofs.Rows.{has-row, row-nothing, row-begins, row-goes-on, arc-word, passed-start, passed-end, passed-step}
 
 -- ---- one arc
 -- its end has a label
@@ -36,7 +37,7 @@ pub crossed : (n d x least : ℕ) (w : List ℕ) → ArcWord n d x w → getD w 
 unfolding crossing arcIn problemAt
 crossed n d x least w g h =
     let v : ℕ = x / 65536 in
-    let label : costAt (labels n w) v ≡ none = label-at n w v (g .end-in) (omega (arith, g .end-in, g .room)) ∙ ap wordOr h ∙ wordOr-none in
+    let label : costAt (labels n w) v ≡ none = label-at n w v (g .end-in) (omega (arith, g .end-in, g .room)) ∙ wordOr-none (getD w v 0) h in
     record { lowered = λ start u. rw (label, lt-ltb v n (g .end-in)) }
 
 pub crossed-below : (n d x least sum : ℕ) (w : List ℕ) → ArcWord n d x w → getD w (x / 65536) 0 ≡ noKey
@@ -55,7 +56,7 @@ crossed-above n d x least sum w g h e l =
 pub no-sums : (n u least : ℕ) (w : List ℕ) → LimitRow n u least w → getD w u 0 ≡ noKey → LimitOver n w (rowsBelow n w (suc u)) least
 unfolding sumOf crossing arcIn
 no-sums n u least w g h =
-    let label : costAt (labels n w) u ≡ none = no-label n w (g .labelled) u (g .row .place) h in
+    let label : costAt (labels n w) u ≡ none = unlabelled n w (omega (arith, g .row .room)) u (g .row .place) h in
     record { least-sum = λ start. rw (row-nothing n w u (sumOf n start w) (λ x. rw label)) (g .so-far .least-sum start) }
 
 pub limiting-start : (n u end least : ℕ) (w : List ℕ) → LimitRow n u least w → end ≡ rowEnd n w u
@@ -96,7 +97,7 @@ limiting-end n u k end best w v l =
 -- ---- all rows
 pub no-rows : (n : ℕ) (w : List ℕ) → LimitUpTo n 0 noKey w
 unfolding rowsBelow filterMap leastBy
-no-rows n w = record { to-end = omega arith; so-far = record { least-sum = λ start. wordOr-none } }
+no-rows n w = record { to-end = omega arith; so-far = record { least-sum = λ start. wordOr-none noKey refl } }
 
 pub limit-row : (n u best : ℕ) (w : List ℕ) → Labelled n w → u < n → LimitUpTo n u best w → LimitRow n u best w
 limit-row n u best w g h v = record { labelled = g; row = has-row n w g u h; so-far = v .so-far }

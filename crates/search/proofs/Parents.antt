@@ -3,7 +3,7 @@
 use mathlib.Core.Path.{_≡_, refl, sym, ap, _∙_}
 use mathlib.Core.Bool.{Bool, true, false, cond, _&&_}
 use mathlib.Core.List.{List, [], _∷_, _++_}
-use mathlib.Core.Option.{Option, none, some, Option·some-injective}
+use mathlib.Core.Option.{Option, none, some}
 use Prim.Native.Nat.{ℕ, suc, _+_, _-_, _/_, _%_, _≤_, _<_}
 use native.Mathlib.Decide.{ℕ-discrete}
 use native.Mathlib.Nat.{sub-zero}
@@ -23,11 +23,14 @@ use Rattle.model.specs.Lists.{filterMap, leastBy, lesser}
 use Rattle.model.specs.Problem.{Arc}
 use Rattle.model.specs.Routes.{parentBy, parent}
 use Rattle.model.proofs.Lists.{none-some}
+use Rattle.model.proofs.Indices.{getD-default}
+use Rattle.model.proofs.Routes.{parentBy-some}
 use Rattle.search.specs.Area.{wordOr, labels, Labelled, parentAt, HasParents}
 use Rattle.search.specs.Scans.{passed, ArcWord, parentStored, Kept, parentFrom, ParentsOver, ParentsRow, ParentsBelow, Parenting, ParentsUpTo}
-use Rattle.search.proofs.Least.{wordOr-none, wordOr-some, lesser-below, word-step}
+use Rattle.search.proofs.Words.{wordOr-none, wordOr-some, label-at, unlabelled}
+use Rattle.search.proofs.Least.{lesser-below, word-step}
 use Rattle.map.proofs.Held.{map-word, rows-same}
-use Rattle.search.proofs.Rows.{getD-default, label-at, no-label, rows-room, has-row, row-nothing, row-begins, row-goes-on, arc-word}
+use Rattle.search.proofs.Rows.{rows-room, has-row, row-nothing, row-begins, row-goes-on, arc-word}
 use Rattle.search.proofs.Rows.{passed-start, passed-end, passed-step, labels-kept, labelled-kept, in-row-kept}
 
 -- ---- one arc
@@ -80,7 +83,7 @@ module _ (n u d x : ℕ) (w : List ℕ) (g : ArcWord n d x w) where
   gives-not v q h = go (ℕ-discrete (getD w v 0) noKey)
     where
       go : Dec (getD w v 0 ≡ noKey) → parentBy (arcIn u x) v (some d) (wordOr (getD w v 0)) ≡ none
-      go (yes e) = rw (ap wordOr e ∙ wordOr-none)
+      go (yes e) = rw (wordOr-none (getD w v 0) e)
       go (no e) = rw (wordOr-some (getD w v 0) e, eq-eqb (x / 65536) v (sym q), ne-eqb (d + x % 65536) (getD w v 0) (λ p. h (sym p)))
 
   gives : (v : ℕ) → v ≡ x / 65536 → getD w v 0 ≡ d + x % 65536 → parentBy (arcIn u x) v (some d) (wordOr (getD w v 0)) ≡ some u
@@ -117,15 +120,6 @@ module _ (n u d x : ℕ) (w : List ℕ) (g : ArcWord n d x w) where
       by (yes q) = to-end q (ℕ-discrete (getD w v 0) (d + x % 65536))
       by (no q) = rw (gives-none v (wordOr (getD w v 0)) q) (stored-other v q)
 
-gives-from : (a : Arc) (v d : ℕ) (o : Option ℕ) (y : ℕ) → parentBy a v (some d) o ≡ some y → y ≡ a .from
-unfolding parentBy
-gives-from a v d none y e = none-some e
-gives-from a v d (some c) y e = go (eqb (a .to) v && eqb (d + a .cost) c) e
-  where
-    go : (b : Bool) → cond b (some (a .from)) none ≡ some y → y ≡ a .from
-    go true e = sym (Option·some-injective _ _ e)
-    go false e = none-some e
-
 module _ (n u d x : ℕ) (w : List ℕ) (g : ArcWord n d x w) (below : u < noKey) where
   pub parents-step : (t : Table) (arcs : List Arc) → labels n w ≡ t → costAt t u ≡ some d
       → ParentsOver n t arcs u w → ParentsOver n t (arcs ++ (arcIn u x ∷ [])) u (parentStored n u d x w)
@@ -141,7 +135,7 @@ module _ (n u d x : ℕ) (w : List ℕ) (g : ArcWord n d x w) (below : u < noKey
       }
     where
       not-above : (v y : ℕ) → parentBy (arcIn u x) v (some d) (costAt t v) ≡ some y → y ≤ u
-      not-above v y e = omega (arith, gives-from (arcIn u x) v d (costAt t v) y e)
+      not-above v y e = omega (arith, parentBy-some (arcIn u x) v (some d) (costAt t v) y e .4)
 
       found : (v y : ℕ) → parentFrom t v (arcIn u x) ≡ some y → y < noKey
       found v y e = omega (arith, not-above v y (rw label at e))
@@ -172,7 +166,7 @@ pub no-parents : (n u : ℕ) (w : List ℕ) → ParentsRow n u w → getD w u 0 
 unfolding parentFrom parentBy arcIn
 no-parents n u w g h =
     let t : Table = labels n w in
-    let label : costAt t u ≡ none = no-label n w (g .labelled) u (g .row .place) h in
+    let label : costAt t u ≡ none = unlabelled n w (omega (arith, g .row .room)) u (g .row .place) h in
     let over : ParentsOver n t (rowsBelow n w (suc u)) u w
     = record {
       lowest = λ v l. rw (row-nothing n w u (parentFrom t v) (λ x. rw label)) (g .so-far .lowest v l);
@@ -272,7 +266,7 @@ module _ (n a e : ℕ) (w ys : List ℕ) (p : a ≡ parentsAt n) (q : e ≡ a + 
   filled-none v l =
       let words : length (part a e w) ≡ n = part-length a e w room ∙ omega arith in
       let word : getD ys v 0 ≡ noKey = rw h (getD-replicate (length (part a e w)) v noKey 0 (omega arith)) in
-      ap wordOr (rw (← p) (back-at a e w ys v (omega arith) room same (omega arith) ∙ word)) ∙ wordOr-none
+      wordOr-none _ (rw (← p) (back-at a e w ys v (omega arith) room same (omega arith) ∙ word))
 
   pub no-rows : ParentsUpTo n 0 (putMid a (e - a) w ys) (putMid a (e - a) w ys)
   unfolding rowsBelow filterMap leastBy

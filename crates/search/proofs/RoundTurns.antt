@@ -31,7 +31,7 @@ use Rattle.search.specs.declared.Verdict.{Verdict}
 use Rattle.search.specs.declared.Verdict.the-variants.{Spent, NoRoute}
 use Rattle.map.proofs.Held.{problem-same, holds-same}
 use Rattle.search.proofs.FoundRoutes.{follows-route}
-use Rattle.search.proofs.Underway as underway
+use Rattle.search.proofs.RoundsUnderway as underway
 
 -- the limit that the round asks
 abbrev pub limitIn : Round → ℕ

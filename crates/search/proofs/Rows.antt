@@ -1,12 +1,12 @@
--- Labels and rows of arcs in the words of the area: the arc at an index, the arcs passed, and that all depends on the words of the map.
--- Assumes nothing.
+-- The rows of arcs of labelled places in the words of the area: the arc at an index, the arcs passed, and that all depends on the words
+-- of labels and map. Assumes nothing.
 use mathlib.Core.Path.{_≡_, refl, sym, ap, _∙_}
-use mathlib.Core.List.{List, [], _∷_, _++_, map, append-nil, append-assoc, map-append}
+use mathlib.Core.List.{List, [], _∷_, _++_, append-nil, append-assoc, map-append}
 use mathlib.Core.Option.{Option, none, some}
 use Prim.Native.Nat.{ℕ, zero, suc, _+_, _-_, _/_, _≤_, _<_}
 use native.Mathlib.Omega.{arith}
-use lib.ListN.{length, getD, take, drop, length-drop, List·getD-map}
-use lib.Seq.{getD-take, getD-drop, take-suc}
+use lib.ListN.{length, getD, take, drop, length-drop}
+use lib.Seq.{getD-drop, take-suc}
 use borrow.Author.Tests.{lt-ltb}
 use Rattle.open_list.specs.Entry.{noKey}
 use Rattle.map.proofs.Held.{start-same, end-same, holds-same, at-arc}
@@ -15,22 +15,10 @@ use Rattle.model.specs.Costs.{costAt}
 use Rattle.model.specs.Limits.{maxPlaces}
 use Rattle.model.specs.Lists.{filterMap}
 use Rattle.model.specs.Problem.{Problem, Arc, IsArc}
-use Rattle.search.specs.Area.{wordOr, labels, Labelled, HasRow}
+use Rattle.search.specs.Area.{labels, Labelled, HasRow}
 use Rattle.search.specs.Scans.{passed, InRow, ArcWord, Kept}
-use Rattle.search.proofs.Least.{wordOr-none, wordOr-some, filterMap-nothing}
-
-pub getD-default : (l : List ℕ) (i d e : ℕ) → i < length l → getD l i d ≡ getD l i e
-getD-default [] i d e h = absurd (omega arith)
-getD-default (x ∷ l) zero d e h = refl
-getD-default (x ∷ l) (suc i) d e h = getD-default l i d e (omega arith)
-
--- the label of a place is its word
-pub label-at : (n : ℕ) (w : List ℕ) (v : ℕ) → v < n → v < length w → costAt (labels n w) v ≡ wordOr (getD w v 0)
-unfolding labels
-label-at n w v h l =
-    ap (λ (d : Option ℕ). getD (map wordOr (take n w)) v d) (sym wordOr-none)
-    ∙ List·getD-map wordOr (take n w) v noKey
-    ∙ ap wordOr (getD-take n w v noKey h ∙ getD-default w v noKey 0 l)
+use Rattle.search.proofs.Words.{wordOr-some, label-at}
+use Rattle.search.proofs.Least.{filterMap-nothing}
 
 -- the row of a place after the first begins where the row before it ends
 pub row-start-after : (n : ℕ) (w : List ℕ) (v : ℕ) → (v ≡ 0 → ⊥) → getD w (endsAt n + v - 1) 0 ≡ rowStart n w v
@@ -83,14 +71,8 @@ module _ (n : ℕ) (w : List ℕ) (g : Labelled n w) where
   row-room : (u : ℕ) → u < n → arcsAt n + rowEnd n w u ≤ length w
   row-room u h = omega (arith, g .holds .room, g .holds .row-in u h)
 
-  pub label-of : (u : ℕ) → u < n → costAt (labels n w) u ≡ wordOr (getD w u 0)
-  label-of u h = label-at n w u h (omega (arith, rows-room))
-
   pub word-label : (u : ℕ) → u < n → (getD w u 0 ≡ noKey → ⊥) → costAt (labels n w) u ≡ some (getD w u 0)
-  word-label u h k = label-of u h ∙ wordOr-some (getD w u 0) k
-
-  pub no-label : (u : ℕ) → u < n → getD w u 0 ≡ noKey → costAt (labels n w) u ≡ none
-  no-label u h k = label-of u h ∙ ap wordOr k ∙ wordOr-none
+  word-label u h k = label-at n w u h (omega (arith, rows-room)) ∙ wordOr-some (getD w u 0) k
 
   pub arc-word : (u d k end : ℕ) → costAt (labels n w) u ≡ some d → InRow n u k end w → k < end → ArcWord n d (getD w (arcsAt n + k) 0) w
   unfolding problemAt arcIn

@@ -15,7 +15,7 @@ use Rattle.model.specs.Costs.{costAt, table}
 use Rattle.model.specs.Terms.{AtMost}
 use Rattle.model.proofs.Lists.{or-false}
 use Rattle.model.proofs.Relaxing.{weaken}
-use Rattle.model.proofs.LeastCosts.{table-least}
+use Rattle.model.proofs.LeastCosts.{entry-below, table-least}
 use Rattle.model.proofs.Keys.{NotBefore}
 use Rattle.search.specs.Front.{Before, Front, FirstOpen, Expanded, also}
 
@@ -52,9 +52,6 @@ also-other settled v u n = rw (ne-eqb u v n) (or-right-false (settled u))
 pub before-below : {x u y w : ℕ} → Before x u y w → x ≤ y
 before-below (inl h) = omega arith
 before-below (inr h) = omega arith
-
-entry-below : {o : Option ℕ} {x d : ℕ} → o ≡ some x → AtMost o d → x ≤ d
-entry-below {o} {x} e m = let same : m .cost ≡ x = cc in omega arith
 
 path-on : {p : Problem} {C d : ℕ} (a : Arc) → IsArc p a → PathWithin p C (a .from) d → d + a .cost + p .estimate (a .to) ≤ C
     → PathWithin p C (a .to) (d + a .cost)

@@ -14,23 +14,12 @@ use Rattle.open_list.specs.Entry.{noKey}
 use Rattle.model.specs.Costs.{costAt}
 use Rattle.model.specs.Terms.{AtMost}
 use Rattle.model.proofs.Lists.{none-some, and-true}
+use Rattle.model.proofs.Indices.{getD-default}
 use Rattle.search.specs.Area.{wordOr, labels, keys, settledAt}
-
--- two tests that hold together are the same
-pub same-test : (a b : Bool) → (a ≡ true → b ≡ true) → (b ≡ true → a ≡ true) → a ≡ b
-same-test true b f g = sym (f refl)
-same-test false true f g = g refl
-same-test false false f g = refl
 
 pub not-true-false : (b : Bool) → (b ≡ true → ⊥) → b ≡ false
 not-true-false true h = absurd (h refl)
 not-true-false false h = refl
-
--- what stands for no element has no part in one that there is
-default-free : (xs : List ℕ) (i d e : ℕ) → i < length xs → getD xs i d ≡ getD xs i e
-default-free [] i d e h = absurd (omega arith)
-default-free (x ∷ xs) zero d e h = refl
-default-free (x ∷ xs) (suc i) d e h = default-free xs i d e (omega arith)
 
 pub wordOr-none : (x : ℕ) → x ≡ noKey → wordOr x ≡ none
 unfolding wordOr
@@ -48,6 +37,29 @@ wordOr-is x d e = go (ℕ-discrete x noKey)
     go (yes q) = none-some (sym (wordOr-none x q) ∙ e)
     go (no q) = let s = wordOr-some x q in ((cc), q)
 
+-- the label of a place is its word
+pub label-at : (n : ℕ) (w : List ℕ) (v : ℕ) → v < n → v < length w → costAt (labels n w) v ≡ wordOr (getD w v 0)
+unfolding labels
+label-at n w v h l =
+    ap (λ (d : Option ℕ). getD (map wordOr (take n w)) v d) (sym (wordOr-none noKey refl))
+    ∙ List·getD-map wordOr (take n w) v noKey
+    ∙ ap wordOr (getD-take n w v noKey h ∙ getD-default w v noKey 0 l)
+
+word-of : (ws : List ℕ) (v d : ℕ) → getD (map wordOr ws) v none ≡ some d → (v < length ws) × (getD ws v 0 ≡ d)
+word-of [] v d e = none-some e
+word-of (x ∷ ws) zero d e = (omega arith, wordOr-is x d e .0)
+word-of (x ∷ ws) (suc v) d e = let rest = word-of ws v d e in (omega arith, rest .1)
+
+-- a label is the word at its place, and stays while the first n words do
+pub label-kept : (n : ℕ) (w₀ w : List ℕ) → take n w ≡ take n w₀ → (v d : ℕ) → costAt (labels n w₀) v ≡ some d
+    → (v < n) × (v < length w) × (getD w v 0 ≡ d)
+unfolding labels
+label-kept n w₀ w same v d e =
+    let word : (v < length (take n w)) × (getD (take n w) v 0 ≡ d) = word-of (take n w) v d (rw same e) in
+    let short = simp length-take at (word .0) in
+    let low : v < n = omega arith in
+    (low, omega arith, sym (getD-take n w v 0 low) ∙ word .1)
+
 -- a place's label is in its word
 pub record HasLabel (n : ℕ) (w : List ℕ) (v d : ℕ) : Type 0 where
   pub place : v < n
@@ -60,11 +72,7 @@ module _ (n : ℕ) (w : List ℕ) (room : n ≤ length w) where
   labels-length = length-map (take n w) wordOr ∙ length-take n w ∙ omega arith
 
   pub label-word : (v : ℕ) → v < n → costAt (labels n w) v ≡ wordOr (getD w v 0)
-  unfolding labels
-  label-word v h =
-      ap (λ (d : Option ℕ). getD (map wordOr (take n w)) v d) (sym (wordOr-none noKey refl))
-      ∙ List·getD-map wordOr (take n w) v noKey
-      ∙ ap wordOr (getD-take n w v noKey h ∙ default-free w v noKey 0 (omega arith))
+  label-word v h = label-at n w v h (omega arith)
 
   pub label-beyond : (v : ℕ) → n ≤ v → costAt (labels n w) v ≡ none
   label-beyond v h = List·getD-eq-default (labels n w) none (omega (arith, labels-length))

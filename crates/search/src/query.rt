@@ -3,6 +3,8 @@ use crate::Asked;
 use crate::Outcome;
 use map::Map;
 use map::layout;
+ghost use mathlib.Core.Path.{_≡_};
+ghost use mathlib.Core.Bool.{false};
 ghost use Rattle.map.specs.Layout.{rowStart, rowEnd};
 ghost use Rattle.search.specs.Area.{Labelled};
 ghost use Rattle.search.specs.Query.{Askable, Answered};
@@ -62,6 +64,18 @@ fn expand(work: &mut [u32], n: usize, m: usize, hand: u64, limit: u32, u: usize,
     h
 }
 
+// What a query gives that is not cut.
+fn answered(outcome: Outcome, count: u32, place: u32) -> Asked
+    ensures { λ r. ⌜ r ≡ record { spent = false; outcome = outcome; count = count; place = place } ⌝ }
+{
+    Asked {
+        spent: false,
+        outcome,
+        count,
+        place,
+    }
+}
+
 // No place is open: the query ends by the least sum over arcs to places with no label, where there is one.
 fn all_settled(work: &[u32], n: usize, count: u32) -> Asked
     requires { ⌜ Labelled n (now work) ⌝ }
@@ -69,19 +83,9 @@ fn all_settled(work: &[u32], n: usize, count: u32) -> Asked
 {
     let next = crate::scans::next_limit(work, n);
     if next == NONE {
-        return Asked {
-            spent: false,
-            outcome: Outcome::None,
-            count,
-            place: 0,
-        };
+        return answered(Outcome::None, count, 0);
     }
-    Asked {
-        spent: false,
-        outcome: Outcome::Ended(next),
-        count,
-        place: 0,
-    }
+    answered(Outcome::Ended(next), count, 0)
 }
 
 pub fn query(work: &mut [u32], size: Map, start: u32, limit: u32, budget: u32, left: u32) -> Asked
@@ -104,20 +108,10 @@ pub fn query(work: &mut [u32], size: Map, start: u32, limit: u32, budget: u32, l
         // A goal before the budget, since a query's length counts the places before the first goal; the budget before the allowance,
         // since document 01 lets it count first.
         if work[layout::goals_at(n) + place] != 0 {
-            return Asked {
-                spent: false,
-                outcome: Outcome::Found,
-                count,
-                place: place as u32,
-            };
+            return answered(Outcome::Found, count, place as u32);
         }
         if count == budget {
-            return Asked {
-                spent: false,
-                outcome: Outcome::Over,
-                count,
-                place: 0,
-            };
+            return answered(Outcome::Over, count, 0);
         }
         if count == left {
             return Asked {

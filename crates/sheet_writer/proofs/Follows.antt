@@ -1,18 +1,17 @@
 -- Laws of the places along the parents.
 -- Assumes nothing.
 use mathlib.Core.Path.{_≡_, refl, sym, ap, subst, _∙_}
-use mathlib.Core.Bool.{Bool, true, false, cond}
 use mathlib.Core.List.{List, [], _∷_, _++_}
-use mathlib.Core.Option.{Option, none, some}
+use mathlib.Core.Option.{Option}
 use Prim.Native.Nat.{ℕ, _+_, _≤_, _<_}
+use native.Mathlib.Decide.{ℕ-discrete}
 use native.Mathlib.Omega.{arith}
-use borrow.Author.Tests.{eq-eqb, ne-eqb}
-use lib.Dec.{eqb}
 use lib.ListN.{length, getD, length-append}
 use Rattle.open_list.specs.Entry.{noKey}
 use Rattle.model.proofs.Indices.{getD-default}
 use Rattle.map.specs.Layout.{parentsAt}
 use Rattle.search.specs.Area.{Follows, first, after, wordOr, parentAt}
+use Rattle.search.proofs.Words.{wordOr-none, wordOr-some}
 use Rattle.sheet_writer.specs.Places.{Earlier}
 
 -- the places up to v are those before it, and v
@@ -54,29 +53,17 @@ parent-word n v w i q h = ap wordOr (getD-default w i 0 noKey h) ∙ ap (λ (k :
 
 -- a word u leads to the places s: to none where it is the word for none, else along the parents of u
 module _ (n u : ℕ) (w s : List ℕ) where
-  no-parent : (b : Bool) → b ≡ true → Earlier n w (cond b none (some u)) s → s ≡ []
-  unfolding Earlier
-  no-parent true q l = l
-  no-parent false q l = let z : _≡_ {A = ℕ} 0 1 = cc in absurd (omega arith)
-
-  a-parent : (b : Bool) → b ≡ false → Earlier n w (cond b none (some u)) s → Follows n w u s
-  unfolding Earlier
-  a-parent true q l = let z : _≡_ {A = ℕ} 0 1 = cc in absurd (omega arith)
-  a-parent false q l = l
-
-  some-parent : (b : Bool) → 1 ≤ length s → Earlier n w (cond b none (some u)) s → Follows n w u s
-  unfolding Earlier
-  some-parent true h l = absurd (omega (arith, ap (λ (x : List ℕ). length x) l))
-  some-parent false h l = l
-
   pub none-leads : u ≡ noKey → Earlier n w (wordOr u) s → s ≡ []
-  unfolding wordOr
-  none-leads q = no-parent (eqb u noKey) (eq-eqb u noKey q)
+  unfolding Earlier
+  none-leads q l = rw (wordOr-none u q) at l
 
   pub place-leads : (u ≡ noKey → ⊥) → Earlier n w (wordOr u) s → Follows n w u s
-  unfolding wordOr
-  place-leads f = a-parent (eqb u noKey) (ne-eqb u noKey f)
+  unfolding Earlier
+  place-leads f l = rw (wordOr-some u f) at l
 
   pub some-leads : 1 ≤ length s → Earlier n w (wordOr u) s → Follows n w u s
-  unfolding wordOr
-  some-leads = some-parent (eqb u noKey)
+  some-leads h l = go (ℕ-discrete u noKey)
+    where
+      go : Dec (u ≡ noKey) → Follows n w u s
+      go (yes q) = absurd (omega (arith, ap (λ (x : List ℕ). length x) (none-leads q l)))
+      go (no f) = place-leads f l

@@ -11,8 +11,8 @@ use Rattle.open_list.specs.Size.{wordsOf}
 use Rattle.map.specs.Layout.{endsAt}
 use Rattle.search.specs.State.{Searching}
 use Rattle.search.proofs.Regions.{openEnd}
-use Rattle.search.proofs.Searches as searches
-use Rattle.search.proofs.Searches.{Underway, Taken}
+use Rattle.search.proofs.QueryUnderway as underway
+use Rattle.search.proofs.QueryUnderway.{Underway, Taken}
 use Rattle.search.proofs.Expansions as expansions
 use Rattle.search.proofs.Answers as answers
 use borrow.Author.Needs.{needs}
@@ -49,7 +49,7 @@ Under-at c =
 under : (c : tie.At-loop Inv-loop μ-loop) → Under-at c
 under c =
     let kept = c .before .before .before .arrive .kept .0 ∙ c .before .before .before .before .before .before .before .before .clear .kept .0 in
-    record { ask = searches.ask-same _ _ _ _ _ (entry (c .before) .pre) _ (same-map (c .before)) kept; search = c .loop .inv }
+    record { ask = underway.ask-same _ _ _ _ _ (entry (c .before) .pre) _ (same-map (c .before)) kept; search = c .loop .inv }
 
 -- what the open list gives as its first
 first : (c : tie.After-place-of Inv-loop μ-loop)
@@ -66,10 +66,10 @@ Taken-at c =
     (loop .loop .hand) (loop .loop .work) (loop .loop .count) (c .before .place-of .result) (c .before .before .key-of .result)
 
 taken : (c : tie.Else1 Inv-loop μ-loop) → Taken-at c
-taken c = searches.taken (under (c .before .before .before .before .before .before)) _ _ (first (c .before)) (omega (arith, c .if1 .left))
+taken c = underway.taken (under (c .before .before .before .before .before .before)) _ _ (first (c .before)) (omega (arith, c .if1 .left))
 
 nodes-requires : tie.Need-nodes-requires Inv-loop μ-loop
-nodes-requires c κs = searches.ask-places _ _ _ _ _ (c .before .pre)
+nodes-requires c κs = underway.ask-places _ _ _ _ _ (c .before .pre)
 
 words-requires : tie.Need-words-requires Inv-loop μ-loop
 words-requires c κs = c .nodes .ensures .nodes
@@ -78,7 +78,7 @@ add-end : tie.Need-add-end Inv-loop μ-loop
 add-end c = search needs
 
 clear-requires : tie.Need-clear-requires Inv-loop μ-loop
-clear-requires c κs = searches.ask-room _ _ _ _ _ (c .before .before .before .before .pre) _ (c .before .before .nodes .ensures)
+clear-requires c κs = underway.ask-room _ _ _ _ _ (c .before .before .before .before .pre) _ (c .before .before .nodes .ensures)
 
 empty-requires : tie.Need-empty-requires Inv-loop μ-loop
 empty-requires c κs = search needs
@@ -86,13 +86,13 @@ empty-requires c κs = search needs
 arrive-requires : tie.Need-arrive-requires Inv-loop μ-loop
 arrive-requires c κs =
     let clear = c .before .before .before .before .clear in
-    searches.start-arrives _ _ _ _ _ (c .before .before .before .before .before .before .before .before .before .pre) _ (c .before .before .before .before .before .before .before .nodes .ensures) _ (clear .ensures) (clear .kept .0) _ (c .empty .ensures)
+    underway.start-arrives _ _ _ _ _ (c .before .before .before .before .before .before .before .before .before .pre) _ (c .before .before .before .before .before .before .before .nodes .ensures) _ (clear .ensures) (clear .kept .0) _ (c .empty .ensures)
 
 loop-holds : tie.Need-loop-holds Inv-loop μ-loop
 loop-holds c =
     let clear = c .before .before .before .before .before .before .before .clear in
     let arrive = c .before .before .arrive in
-    searches.searching-starts _ _ _ _ _ _ (entry c .pre) (c .before .before .before .before .before .before .before .before .before .before .nodes .ensures) _ (clear .ensures) (clear .kept .0) _ (c .before .before .before .empty .ensures) _ _ (arrive .ensures) (arrive .kept .0) _ _
+    underway.searching-starts _ _ _ _ _ _ (entry c .pre) (c .before .before .before .before .before .before .before .before .before .before .nodes .ensures) _ (clear .ensures) (clear .kept .0) _ (c .before .before .before .empty .ensures) _ _ (arrive .ensures) (arrive .kept .0) _ _
 
 mul-least : tie.Need-mul-least Inv-loop μ-loop
 mul-least c = search needs
@@ -108,7 +108,7 @@ part-least-end c = search needs
 
 least-requires : tie.Need-least-requires Inv-loop μ-loop
 unfolding part
-least-requires c κs = rw (size (c .before .before .before)) (searches.search-list (under (c .before .before)))
+least-requires c κs = rw (size (c .before .before .before)) (underway.search-list (under (c .before .before)))
 
 key-of-requires : tie.Need-key-of-requires Inv-loop μ-loop
 key-of-requires c κs = search needs
@@ -120,7 +120,7 @@ cast-place : tie.Need-cast-place Inv-loop μ-loop
 cast-place c = search needs
 
 all-settled-requires : tie.Need-all-settled-requires Inv-loop μ-loop
-all-settled-requires c κs = searches.search-labelled (under (c .before .before .before .before .before .before .before))
+all-settled-requires c κs = underway.search-labelled (under (c .before .before .before .before .before .before .before))
 
 same-length : tie.Need-same-length Inv-loop μ-loop
 same-length c = search needs
@@ -129,7 +129,7 @@ returns : tie.Need-returns Inv-loop μ-loop
 unfolding part
 returns c =
     let search = under (c .before .before .before .before .before .before .before .before) in
-    let none = searches.none-open search _ _ (first (c .before .before .before)) (omega (arith, c .before .before .if1 .taken)) in
+    let none = underway.none-open search _ _ (first (c .before .before .before)) (omega (arith, c .before .before .if1 .taken)) in
     answers.answered-same _ _ _ _ _ _ _ _ _ (same-map (c .before .before .before .before .before .before .before .before .before)) (answers.answered-settled search none _ (c .all-settled .ensures))
 
 goals-at-requires : tie.Need-goals-at-requires Inv-loop μ-loop
@@ -144,34 +144,42 @@ mul-if2 c = search needs
 slice-read-if2 : tie.Need-slice-read-if2 Inv-loop μ-loop
 slice-read-if2 c = omega (arith, (taken (c .before .before)) .place)
 
-cast-t34 : tie.Need-cast-t34 Inv-loop μ-loop
-cast-t34 c = search needs
+cast-answered : tie.Need-cast-answered Inv-loop μ-loop
+cast-answered c = search needs
+
+answered-requires : tie.Need-answered-requires Inv-loop μ-loop
+answered-requires c κs = search needs
 
 same-length-2 : tie.Need-same-length-2 Inv-loop μ-loop
 same-length-2 c = search needs
 
 returns-2 : tie.Need-returns-2 Inv-loop μ-loop
 returns-2 c =
-    let t = (taken (c .before .before .before)) in
-    let goal = searches.taken-goal t _ (c .before .before .goals-at .ensures) (c .if2 .taken) in
-    answers.answered-same _ _ _ _ _ _ _ _ _ (same-map (c .before .before .before .before .before .before .before .before .before .before)) (answers.answered-goal (t .under) (t .first) goal)
+    let t = taken (c .before .before .before .before) in
+    let goal = underway.taken-goal t _ (c .before .before .before .goals-at .ensures) (c .before .if2 .taken) in
+    rw (c .answered .ensures)
+    (answers.answered-same _ _ _ _ _ _ _ _ _ (same-map (c .before .before .before .before .before .before .before .before .before .before .before)) (answers.answered-goal (t .under) (t .first) goal))
+
+answered-requires-2 : tie.Need-answered-requires-2 Inv-loop μ-loop
+answered-requires-2 c κs = search needs
 
 same-length-3 : tie.Need-same-length-3 Inv-loop μ-loop
 same-length-3 c = search needs
 
 returns-3 : tie.Need-returns-3 Inv-loop μ-loop
 returns-3 c =
-    let t = (taken (c .before .before .before .before)) in
-    let no-goal = searches.taken-no-goal t _ (c .before .before .before .goals-at .ensures) (c .before .if2 .left) in
-    answers.answered-same _ _ _ _ _ _ _ _ _ (same-map (c .before .before .before .before .before .before .before .before .before .before .before)) (answers.answered-over (t .under) (t .first) no-goal (c .if3 .taken))
+    let t = taken (c .before .before .before .before .before) in
+    let no-goal = underway.taken-no-goal t _ (c .before .before .before .before .goals-at .ensures) (c .before .before .if2 .left) in
+    rw (c .answered2 .ensures)
+    (answers.answered-same _ _ _ _ _ _ _ _ _ (same-map (c .before .before .before .before .before .before .before .before .before .before .before .before)) (answers.answered-over (t .under) (t .first) no-goal (c .before .if3 .taken)))
 
 same-length-4 : tie.Need-same-length-4 Inv-loop μ-loop
 same-length-4 c = search needs
 
 returns-4 : tie.Need-returns-4 Inv-loop μ-loop
 returns-4 c =
-    let t = (taken (c .before .before .before .before .before)) in
-    let no-goal = searches.taken-no-goal t _ (c .before .before .before .before .goals-at .ensures) (c .before .before .if2 .left) in
+    let t = taken (c .before .before .before .before .before) in
+    let no-goal = underway.taken-no-goal t _ (c .before .before .before .before .goals-at .ensures) (c .before .before .if2 .left) in
     answers.answered-same _ _ _ _ _ _ _ _ _ (same-map (c .before .before .before .before .before .before .before .before .before .before .before .before)) (answers.answered-spent (t .under) (t .first) no-goal (c .before .if3 .left) (c .if4 .taken))
 
 mul-close : tie.Need-mul-close Inv-loop μ-loop
@@ -215,7 +223,7 @@ loop-again c =
     let turn = c .before .before .before .before .before .before .before .before .before .before .before .before .before in
     let t = taken turn in
     let is = size (turn .before .before .before .before .before .before .before) in
-    let no-goal = searches.taken-no-goal t _ (c .before .before .before .before .before .before .before .before .before .before .before .before .goals-at .ensures) (c .before .before .before .before .before .before .before .before .before .before .if2 .left) in
+    let no-goal = underway.taken-no-goal t _ (c .before .before .before .before .before .before .before .before .before .before .before .before .goals-at .ensures) (c .before .before .before .before .before .before .before .before .before .before .if2 .left) in
     expansions.searching-on t _ _ (rw is at (close .kept .0)) (rw is at (close .ensures)) no-goal _ _ (rw is at (expand .ensures)) (rw is at (expand .kept .0)) (c .before .before .before .before .before .before .before .before .before .if3 .left) (c .before .before .before .before .before .before .before .before .if4 .left)
 
 pub query-spec : {M : Type 1} → statement M
@@ -246,9 +254,11 @@ query-spec =
     add-if2
     mul-if2
     slice-read-if2
-    cast-t34
+    cast-answered
+    answered-requires
     same-length-2
     returns-2
+    answered-requires-2
     same-length-3
     returns-3
     same-length-4

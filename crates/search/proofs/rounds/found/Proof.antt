@@ -1,7 +1,7 @@
 -- The passes over the arcs keep the labels, so that the word at the goal is its label.
 -- Assumes nothing.
 use borrow.Author.Needs.{needs}
-use Rattle.search.proofs.FoundRoutes.{label-word}
+use Rattle.search.proofs.Words.{label-kept}
 use Rattle.search.proofs.rounds.found.Statement.{statement}
 use Rattle.search.proofs.rounds.found.Tie as tie
 
@@ -14,7 +14,7 @@ mul-t11 c = search needs
 slice-read-t13 : tie.Need-slice-read-t13
 slice-read-t13 c =
     let entry = c .before .before .before .before .before .before in
-    label-word _ _ _ (c .before .before .before .parents .ensures .same-labels) _ _ (entry .pre .label) .1
+    label-kept _ _ _ (c .before .before .before .parents .ensures .same-labels) _ _ (entry .pre .label) .1
 
 same-length : tie.Need-same-length
 same-length c = search needs
@@ -23,7 +23,7 @@ returns : tie.Need-returns
 returns c =
     let entry = c .before .before .before .before .before .before in
     let parents = c .before .before .before .parents .ensures in
-    let word = label-word _ _ _ (parents .same-labels) _ _ (entry .pre .label) .2 in
+    let word = label-kept _ _ _ (parents .same-labels) _ _ (entry .pre .label) .2 in
     record {
       parents = parents;
       cost = entry .pre .cost;

@@ -7,26 +7,26 @@ use mathlib.Core.Option.{some}
 use Prim.Native.Nat.{ℕ, _+_, _*_, _^_, _≤_, _<_}
 use native.Mathlib.Omega.{arith}
 use native.Mathlib.Decide.{ℕ-discrete, decLt}
-use lib.ListN.{length, getD, set, drop, replicate, getD-replicate, length-replicate}
-use lib.Seq.{getD-set-same, getD-set-other}
+use lib.ListN.{length, getD, drop, getD-replicate}
 use Rattle.area.specs.Part.{part}
 use Rattle.open_list.specs.Entry.{noKey}
 use Rattle.open_list.specs.Keys.{OpenList, Least, keysOf, emptyHand}
 use Rattle.open_list.specs.Size.{Places, Enough}
-use Rattle.map.specs.Layout.{goalsAt, problemAt}
+use Rattle.map.specs.Layout.{endsAt, goalsAt, problemAt}
 use Rattle.model.specs.Problem.{IsGoal}
 use Rattle.model.specs.Costs.{costAt}
 use Rattle.model.proofs.LeastCosts.{end-below}
 use Rattle.search.specs.Front.{FirstOpen, NoneOpen}
-use Rattle.search.specs.Area.{labels, openWords, keys, settledAt, Labelled}
+use Rattle.search.specs.Area.{labels, keys, settledAt, Labelled}
 use Rattle.search.specs.Query.{Askable}
-use Rattle.search.specs.State.{Room, Blank, Arrives, Arrived, Coherent, Searching}
+use Rattle.search.specs.State.{Room, Blank, Arrives, Arrived, Searching}
 use Rattle.search.proofs.Settling.{not-both}
-use Rattle.search.proofs.Front.{begin-front, count-none}
+use Rattle.search.proofs.Counting.{count-none}
+use Rattle.search.proofs.Front.{begin-front}
 use Rattle.search.proofs.Words.{not-true-false, HasLabel, label-is, is-label, HasSettled, settled-is, is-settled}
 use Rattle.map.proofs.Held.{problem-same, holds-same, goal-mark, mark-goal}
 use Rattle.search.proofs.Regions.{openEnd, open-part}
-use Rattle.search.proofs.Arcs.{coherent-length}
+use Rattle.search.proofs.Coherence.{coherent-length, KeySet, own-key, still-coherent}
 
 module _ (n arcs start limit : ℕ) (w : List ℕ) (ask : Askable n arcs start limit w) where
   pub ask-places : Places n
@@ -41,7 +41,7 @@ module _ (n arcs start limit : ℕ) (w : List ℕ) (ask : Askable n arcs start l
   ask-room m e = record { few = ask-places .few; enough = e; words = omega (arith, ask .holds .room) }
 
   -- words with the same map may be asked the same
-  pub ask-same : (w′ : List ℕ) → drop (13 * n) w′ ≡ drop (13 * n) w → length w′ ≡ length w → Askable n arcs start limit w′
+  pub ask-same : (w′ : List ℕ) → drop (endsAt n) w′ ≡ drop (endsAt n) w → length w′ ≡ length w → Askable n arcs start limit w′
   ask-same w′ same len =
       record {
         holds = holds-same n w′ w same arcs start len (ask .holds);
@@ -70,33 +70,30 @@ module _ (n m arcs start limit : ℕ) (w₀ : List ℕ) (ask : Askable n arcs st
   place : start < n
   place = ask-start n arcs start limit w₀ ask
 
-  keys-begin : keys n m hand w ≡ set (replicate (7 * m + 1) noKey) start 0
+  no-key : (v : ℕ) → v < 7 * m + 1 → getD (keys n m h₁ w₁) v 0 ≡ noKey
   unfolding keys
-  keys-begin =
-      let cleared : keysOf m h₁ (openWords n m w₁) ≡ replicate (7 * m + 1) noKey = rw empty (b .none-open .keys-none) in
-      a .keys-set ∙ ap (λ (ks : List ℕ). set ks start 0) cleared
+  no-key v h = rw (empty, b .none-open .keys-none) (getD-replicate (7 * m + 1) v noKey 0 h)
 
-  start-key : getD (keys n m hand w) start 0 ≡ 0
-  start-key = rw keys-begin (getD-set-same (replicate (7 * m + 1) noKey) start 0 0 (simp length-replicate (omega (arith, place, enough .keys))))
-
-  other-key : (v : ℕ) → v < 7 * m + 1 → (v ≡ start → ⊥) → getD (keys n m hand w) v 0 ≡ noKey
-  other-key v h q = rw keys-begin (getD-set-other (replicate (7 * m + 1) noKey) start v 0 0 q ∙ getD-replicate (7 * m + 1) v noKey 0 h)
+  key-set : KeySet n m h₁ w₁ start 0 hand w
+  key-set =
+      record {
+        coherent =
+            record {
+              room = record { few = ask-places n arcs start limit w₀ ask .few; enough = enough; words = omega (arith, ask .holds .room) };
+              list = rw empty (b .none-open .list);
+              key-label = λ v h. inl (no-key v (omega (arith, enough .keys)));
+              beyond = λ v h k. no-key v k;
+            };
+        place = place;
+        keys-set = a .keys-set;
+        list = a .list;
+        same-length = len;
+        other-labels = a .other-labels;
+        label = inr (sym (a .label));
+      }
 
   other-label : (v : ℕ) → v < n → (v ≡ start → ⊥) → getD w v 0 ≡ noKey
   other-label v h q = a .other-labels v h q ∙ b .unlabelled v h
-
-  begun-coherent : Coherent n m hand w
-  begun-coherent =
-      record {
-        room = record { few = ask-places n arcs start limit w₀ ask .few; enough = enough; words = omega (arith, ask .holds .room) };
-        list = a .list;
-        key-label = λ v h. go v h (ℕ-discrete v start);
-        beyond = λ v h k. other-key v k (λ q. omega (arith, place));
-      }
-    where
-      go : (v : ℕ) → v < n → Dec (v ≡ start) → (getD (keys n m hand w) v 0 ≡ noKey) ⊎ (getD (keys n m hand w) v 0 ≡ getD w v 0)
-      go v h (yes q) = inr (rw q (start-key ∙ sym (a .label)))
-      go v h (no q) = inl (other-key v (omega (arith, enough .keys)) q)
 
   none-settled : (v : ℕ) → settledAt n m hand w v ≡ false
   none-settled v = not-true-false (settledAt n m hand w v) never
@@ -105,7 +102,7 @@ module _ (n m arcs start limit : ℕ) (w₀ : List ℕ) (ask : Askable n arcs st
       never t = go (settled-is n m hand w v t) (ℕ-discrete v start)
         where
           go : HasSettled n m hand w v → Dec (v ≡ start) → ⊥
-          go s (yes q) = omega (arith, s .key, start-key, ap (λ (i : ℕ). getD (keys n m hand w) i 0) q)
+          go s (yes q) = omega (arith, s .key, own-key key-set, ap (λ (i : ℕ). getD (keys n m hand w) i 0) q)
           go s (no q) = s .label (other-label v (s .place) q)
 
   only-start : (v d : ℕ) → costAt (labels n w) v ≡ some d → (v ≡ start) × (d ≡ 0)
@@ -125,7 +122,7 @@ module _ (n m arcs start limit : ℕ) (w₀ : List ℕ) (ask : Askable n arcs st
       record {
         same-map = refl;
         same-length = refl;
-        coherent = begun-coherent;
+        coherent = still-coherent key-set;
         front = rw none (begin-front (problemAt n start w) limit (λ v. costAt (labels n w) v) (again .holds .valid) (again .start-within) label only-start);
         counted = rw none (count-none n);
         in-budget = omega arith;

@@ -1,7 +1,7 @@
--- The search under way: what is known as a query begins, and what follows from how it ends. Assumes nothing.
+-- The rounds under way: what is known as a query begins, and what follows from how it ends. Assumes nothing.
 use mathlib.Core.Path.{_≡_, refl, sym, ap, _∙_}
 use mathlib.Core.Bool.{false}
-use mathlib.Core.List.{List, [], _∷_, _++_, getLastD, append-assoc, concat-ne-nil, List·Memᴰ, List·Memᴰ·head, Memᴰ·append-right}
+use mathlib.Core.List.{List, [], _∷_, _++_, append-assoc, concat-ne-nil, List·Memᴰ, List·Memᴰ·head, Memᴰ·append-right}
 use mathlib.Core.Option.{none, some}
 use Prim.Native.Nat.{ℕ, _+_, _-_, _*_, _^_, _≤_, _<_}
 use native.Mathlib.Nat.{le-refl}
@@ -18,6 +18,7 @@ use Rattle.model.specs.Terms.{Kept, CutAt, Run, last, more}
 use Rattle.model.proofs.Lists.{none-some}
 use Rattle.model.proofs.Queries.{nothing-next}
 use Rattle.model.proofs.Rounds.{low-limit}
+use Rattle.model.proofs.Routes.{snoc-injective}
 use Rattle.model.proofs.Laws as laws
 use Rattle.search.specs.Underway.{Underway}
 
@@ -29,15 +30,6 @@ total-append (x ∷ xs) ys = let rest = total-append xs ys in omega arith
 total-snoc : (xs : List Step) (s : Step) → total (xs ++ (s ∷ [])) ≡ total xs + s .query .cost
 unfolding total
 total-snoc xs s = omega (arith, total-append xs (s ∷ []))
-
-last-snoc : (xs : List Step) (s d : Step) → getLastD (xs ++ (s ∷ [])) d ≡ s
-unfolding getLastD
-last-snoc [] s d = refl
-last-snoc (x ∷ []) s d = refl
-last-snoc (x ∷ y ∷ xs) s d = last-snoc (y ∷ xs) s x
-
-same-last : (xs ys : List Step) (s t : Step) → xs ++ (s ∷ []) ≡ ys ++ (t ∷ []) → s ≡ t
-same-last xs ys s t e = sym (last-snoc xs s s) ∙ ap (λ (ss : List Step). getLastD ss s) e ∙ last-snoc ys t s
 
 -- what is asked in the round is the run's first query
 run-first : {p : Problem} {r : Round} {ss : List Step} → Run p r ss → (later : List Step) × (ss ≡ ask p r ∷ later)
@@ -114,7 +106,7 @@ module _ (p : Problem) (ok : Valid p) (a : ℕ) where
           sum = omega (arith, u .sum, total-snoc (u .done) (ask p r));
           lasts = omega (arith, u .lasts);
           counted = simp length-append (omega (arith, u .counted));
-          last-outcome = λ before x f. ap (λ (y : Step). y .query .outcome) (sym (same-last (u .done) before (ask p r) x f));
+          last-outcome = λ before x f. ap (λ (y : Step). y .query .outcome) (sym (snoc-injective (u .done) before (ask p r) x f .1));
         }
 
     -- the allowance does not last for the query
@@ -169,7 +161,7 @@ module _ (p : Problem) (ok : Valid p) (a : ℕ) where
         is-last : search p a .last ≡ ask p r
         is-last =
             let (x, ends) = uncut .2 in
-            same-last x (u .done) (search p a .last) (ask p r) (sym ends ∙ whole)
+            snoc-injective x (u .done) (search p a .last) (ask p r) (sym ends ∙ whole) .1
 
     pub ends-no-route : outcomeIn p r ≡ nothing → costOf p r ≤ a - t
         → searched p (search p a) (search p a .spent) ≡ noRoute (p .start) (limitOf (r .low) (r .high)) (t + costOf p r) (q + 1)
