@@ -73,8 +73,6 @@ pub fn put32(s: &mut [u8], i: usize, x: u32)
     requires { ⌜ i + 3 < length (now s) ⌝ }
     ensures { λ _. ⌜ now (s .exit) ≡ sets (now (s .entry)) i (bytes32 x) ⌝ }
 {
-    s[i] = (x % 256) as u8;
-    s[i + 1] = (x / 256 % 256) as u8;
-    s[i + 2] = (x / 65536 % 256) as u8;
-    s[i + 3] = (x / 16777216 % 256) as u8;
+    put16(s, i, x);
+    put16(s, i + 2, x / 65536);
 }

@@ -71,19 +71,19 @@ problemAt n start w =
       growth = 2;
     }
 
--- the words hold a valid problem of n places and m arcs, whose rows lie in order
-pub record Holds (n m start : ℕ) (w : List ℕ) : Type 0 where
+-- the words hold a valid problem of n places and so many arcs, whose rows lie in order
+pub record Holds (n arcs start : ℕ) (w : List ℕ) : Type 0 where
   pub valid : Valid (problemAt n start w)
-  pub room : arcsAt n + m ≤ length w
+  pub room : arcsAt n + arcs ≤ length w
   pub row-rises : (v : ℕ) → v < n → rowStart n w v ≤ rowEnd n w v
-  pub row-in : (v : ℕ) → v < n → rowEnd n w v ≤ m
+  pub row-in : (v : ℕ) → v < n → rowEnd n w v ≤ arcs
 
 -- the words after loading: they hold the input's problem, and the words before the row ends and after the arcs are as before
-pub record Loaded (input : List ℕ) (n m start : ℕ) (w₀ w : List ℕ) : Type 0 where
-  pub holds : Holds n m start w
+pub record Loaded (input : List ℕ) (n arcs start : ℕ) (w₀ w : List ℕ) : Type 0 where
+  pub holds : Holds n arcs start w
   pub same : SameProblem (problemOf (frame input .records)) (problemAt n start w)
   pub front : take (endsAt n) w ≡ take (endsAt n) w₀
-  pub rest : drop (arcsAt n + m) w ≡ drop (arcsAt n + m) w₀
+  pub rest : drop (arcsAt n + arcs) w ≡ drop (arcsAt n + arcs) w₀
 
 -- an accepted input, with what its job states, and a work area as long as acceptance asks
 pub record Loadable (input : List ℕ) (j : Job) (w : List ℕ) : Type 0 where

@@ -1,7 +1,7 @@
 -- What acceptance gives: each condition of 1 to 15 is false, and the problem is valid. Assumes nothing.
 use mathlib.Core.Path.{_≡_, refl}
 use mathlib.Core.Bool.{Bool, true, false, cond}
-use mathlib.Core.List.{List, [], _∷_, map, List·Memᴰ, List·Memᴰ·head, List·Memᴰ·tail, List·Memᴰ·not-nil}
+use mathlib.Core.List.{List, [], _∷_, map, List·Memᴰ, List·Memᴰ·head, List·Memᴰ·tail, List·Memᴰ·not-nil, Memᴰ·of-map}
 use mathlib.Core.Option.{none, some}
 use Prim.Native.Nat.{ℕ, zero, suc, _+_, _*_, _≤_}
 use native.Mathlib.Omega.{arith}
@@ -38,11 +38,6 @@ use Rattle.model.specs.Refusals.{
 }
 use Rattle.model.proofs.Lists.{none-some, or-false, any-false, filterMap-member}
 use Rattle.model.proofs.Bytes.{take-bytes, drop-bytes, u16-below}
-
--- an element of `map f xs` is the image of an element of xs
-map-member : {A B : Type 0} (f : A → B) (xs : List A) (y : B) → List·Memᴰ y (map f xs) → (x : A) × List·Memᴰ x xs × (y ≡ f x)
-map-member f (x ∷ xs) y (List·Memᴰ·head e) = (x, List·Memᴰ·head refl, e)
-map-member f (x ∷ xs) y (List·Memᴰ·tail i) = let m = map-member f xs y i in (m .0, List·Memᴰ·tail (m .1), m .2)
 
 some-member : {A : Type 0} (xs : List A) → 1 ≤ length xs → (x : A) × List·Memᴰ x xs
 some-member [] h = absurd (omega arith)
@@ -149,10 +144,10 @@ member-of-bodies kind rs b i = let m = filterMap-member (bodyIf kind) rs b .0 i 
 cost-below : (input : List ℕ) → Bytes input → (a : Arc) → List·Memᴰ a (arcsOf (frame input .records)) → a .cost ≤ maxCost
 unfolding frame arcsOf arcOf
 cost-below input B a i =
-    let (b, j, is) = map-member arcOf _ a i in
+    let (b, j, is) = Memᴰ·of-map arcOf _ i in
     let (r, k, has) = member-of-bodies arcKind (frame input .records) b j in
     let bytes : Bytes b = rw has at (body-bytes (length input) input B r k) in
-    rw is (omega (arith, u16-below b 4 bytes))
+    rw (← is) (omega (arith, u16-below b 4 bytes))
 
 pub accepted-valid : (input : List ℕ) (words bytes : ℕ) → Bytes input → Accepted input words bytes → Valid (problemOf (frame input .records))
 unfolding problemOf wrongSize outsideMap freeArc largeEstimate jobOutsideMap wrongGoals goalEstimate

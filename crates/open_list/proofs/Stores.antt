@@ -1,8 +1,8 @@
 -- The laws of the words: what stands where in the tree, and what a store of a node's entry and of a place's key changes.
 -- Assumes nothing.
-use mathlib.Core.Path.{_≡_, refl, sym, ap, _∙_}
+use mathlib.Core.Path.{_≡_, sym, ap, _∙_}
 use mathlib.Core.List.{List}
-use mathlib.Core.Logic.{_≢_}
+use mathlib.Core.Logic.{_≢_, ite, if-pos, if-neg}
 use Prim.Native.Nat.{ℕ, _+_, _-_, _*_, _<_, _≤_, min}
 use native.Mathlib.Decide.{decLt}
 use native.Mathlib.Omega.{arith}
@@ -10,29 +10,19 @@ use lib.ListN.{length, getD, set, length-set, length-drop}
 use lib.Seq.{getD-set-same, getD-set-other, drop-set-lt, drop-set-add, getD-drop}
 use Rattle.open_list.specs.Entry.{entry, placeOf, keyOf, noEntry}
 use Rattle.open_list.specs.Size.{Shape}
-use Rattle.open_list.specs.Tree.{treeKeys, nodeEntry, leafEntry, stored, entryAt, pick}
+use Rattle.open_list.specs.Tree.{treeKeys, nodeEntry, leafEntry, stored, entryAt}
 use Rattle.open_list.proofs.Eightfold.{SameBut}
 
 -- ---- what stands where
-pick-yes : {A : Type 0} (d : Dec A) (a b : ℕ) → A → pick d a b ≡ a
-unfolding pick
-pick-yes (yes _) a b h = refl
-pick-yes (no n) a b h = absurd (n h)
-
-pick-no : {A : Type 0} (d : Dec A) (a b : ℕ) → (A → ⊥) → pick d a b ≡ b
-unfolding pick
-pick-no (yes y) a b h = absurd (h y)
-pick-no (no n) a b h = refl
-
 pub at-node : (m : ℕ) (t : List ℕ) (i : ℕ) → i < m → entryAt m t i ≡ min (nodeEntry t i) noEntry
 unfolding entryAt
-at-node m t i h = ap (λ (x : ℕ). min x noEntry) (pick-yes (decLt i m) (nodeEntry t i) (leafEntry m t (i - m)) h)
+at-node m t i h = ap (λ (x : ℕ). min x noEntry) (if-pos (decLt i m) h (nodeEntry t i) (leafEntry m t (i - m)))
 
 pub at-leaf : (m : ℕ) (t : List ℕ) (p : ℕ) → entryAt m t (m + p) ≡ min (leafEntry m t p) noEntry
 unfolding entryAt
 at-leaf m t p =
     let e : m + p - m ≡ p = omega arith in
-    let q : pick (decLt (m + p) m) (nodeEntry t (m + p)) (leafEntry m t (m + p - m)) ≡ leafEntry m t (m + p - m) = pick-no _ _ _ (λ h. omega arith) in
+    let q : ite (decLt (m + p) m) (nodeEntry t (m + p)) (leafEntry m t (m + p - m)) ≡ leafEntry m t (m + p - m) = if-neg (decLt (m + p) m) (λ h. omega arith) (nodeEntry t (m + p)) (leafEntry m t (m + p - m)) in
     ap (λ (x : ℕ). min x noEntry) (q ∙ ap (leafEntry m t) e)
 
 pub keys-at : (m p : ℕ) (t : List ℕ) → getD (treeKeys m t) p 0 ≡ getD t (m + m + p) 0

@@ -2,6 +2,7 @@
 -- What stands at m + p is the leaf of place p.
 use mathlib.Core.Path.{_≡_}
 use mathlib.Core.List.{List}
+use mathlib.Core.Logic.{ite}
 use Prim.Native.Nat.{ℕ, _+_, _-_, _*_, _/_, _<_, _≤_, min}
 use native.Mathlib.Decide.{decLt}
 use lib.ListN.{length, getD, drop, set, replicate}
@@ -47,13 +48,9 @@ Right f j = f j ≡ least8 f (firstChild j)
 abbrev pub AllRight : ℕ → (ℕ → ℕ) → Type 0
 AllRight m f = (j : ℕ) → j < m → Right f j
 
-unfoldable pub pick : {A : Type 0} → Dec A → ℕ → ℕ → ℕ
-pick (yes _) a b = a
-pick (no _) a b = b
-
 -- what stands at j: a node's entry, or beyond the nodes a place's. All entries without a key count as one.
 unfoldable pub entryAt : ℕ → List ℕ → ℕ → ℕ
-entryAt m words j = min (pick (decLt j m) (nodeEntry words j) (leafEntry m words (j - m))) noEntry
+entryAt m words j = min (ite (decLt j m) (nodeEntry words j) (leafEntry m words (j - m))) noEntry
 
 pub record Tournament (m : ℕ) (words : List ℕ) : Type 0 where
   pub shape : Shape m words

@@ -42,7 +42,6 @@ fn write_sheet(verdict: Verdict, job: Job, work: &[u32], sheet: &mut [u8]) -> u3
     }
 }
 
-// The numbers of a verdict.
 fn numbers(verdict: Verdict, bytes: u32) -> Answer
     ensures { λ r. ⌜ answerOf r ≡ numbersOf verdict bytes ⌝ }
 {

@@ -1,66 +1,23 @@
--- The bytes are stored one after another.
-use native.Mathlib.Numerals.{towards-suc}
-use native.Mathlib.Omega.{arith}
-use lib.ListN.{length-set}
-use Rattle.model.specs.Bytes.{put32}
+-- The lower field, then the higher one.
 use borrow.Author.Needs.{needs}
+use Rattle.area.proofs.Sets.{two-fields}
 use Rattle.area.proofs.put32.Statement.{statement}
 use Rattle.area.proofs.put32.Tie as tie
 
-cast-s : tie.Need-cast-s
-cast-s c = search needs
+put16-requires : tie.Need-put16-requires
+put16-requires c κs = search needs
 
-slice-write-s : tie.Need-slice-write-s
-slice-write-s c = search needs
+add-put16 : tie.Need-add-put16
+add-put16 c = search needs
 
-cast-s-2 : tie.Need-cast-s-2
-cast-s-2 c = search needs
-
-add-s : tie.Need-add-s
-add-s c = search needs
-
-slice-write-s-2 : tie.Need-slice-write-s-2
-slice-write-s-2 c = simp length-set (omega arith)
-
-cast-s-3 : tie.Need-cast-s-3
-cast-s-3 c = search needs
-
-add-s-2 : tie.Need-add-s-2
-add-s-2 c = search needs
-
-slice-write-s-3 : tie.Need-slice-write-s-3
-slice-write-s-3 c = simp length-set (omega arith)
-
-cast-s-4 : tie.Need-cast-s-4
-cast-s-4 c = search needs
-
-add-s-3 : tie.Need-add-s-3
-add-s-3 c = search needs
-
-slice-write-s-4 : tie.Need-slice-write-s-4
-slice-write-s-4 c = search needs
+put16-requires-2 : tie.Need-put16-requires-2
+put16-requires-2 c κs = search needs
 
 same-length : tie.Need-same-length
 same-length c = search needs
 
 returns : tie.Need-returns
-unfolding put32
-returns c = simp towards-suc
+returns c = two-fields _ _ _ (c .before .before .before .before .before .before .put16 .ensures) (c .before .before .put162 .ensures)
 
 pub put32-spec : {M : Type 1} → statement M
-put32-spec =
-    tie.close
-    (tie.spec
-    cast-s
-    slice-write-s
-    cast-s-2
-    add-s
-    slice-write-s-2
-    cast-s-3
-    add-s-2
-    slice-write-s-3
-    cast-s-4
-    add-s-3
-    slice-write-s-4
-    same-length
-    returns)
+put32-spec = tie.close (tie.spec put16-requires add-put16 put16-requires-2 same-length returns)
