@@ -1,2 +1,3 @@
+-- Laws of parts of lists and of runs of stores.
 pub mod Parts
 pub mod Sets

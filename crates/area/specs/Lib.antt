@@ -1,1 +1,2 @@
+-- What a part of a list is.
 pub mod Part

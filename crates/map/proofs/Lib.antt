@@ -1,24 +1,8 @@
+-- Laws of records in an input, and of a map that the work area holds.
 pub mod Parts
 pub mod Records
 pub mod Reading
 pub mod RecordKinds
 pub mod Misfits
 pub mod Bodies
-pub mod SurveyLaws
-pub mod Marks
-pub mod FieldLaws
-pub mod FieldSteps
-pub mod GoalLaws
-pub mod Groups
-pub mod HeadAndJob
-pub mod JudgeMap
-pub mod JudgeJob
-pub mod Counting
-pub mod Sums
-pub mod Placing
-pub mod Marking
-pub mod Regions
-pub mod Known
-pub mod Passes
 pub mod Held
-pub mod Loading

@@ -13,7 +13,7 @@ use Rattle.model.specs.Input.{problemOf}
 use Rattle.model.specs.Refusals.{Accepted}
 use Rattle.model.specs.Terms.{SameProblem}
 use Rattle.map.specs.declared.Job.{Job}
-use Rattle.map.specs.Judge.{States}
+use Rattle.map.specs.Jobs.{States}
 
 -- where each region begins; the labels begin at 0
 abbrev pub openAt : ℕ → ℕ

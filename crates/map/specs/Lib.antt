@@ -1,8 +1,4 @@
+-- What the records of an input and a map in the work area are.
 pub mod Records
-pub mod Judge
+pub mod Jobs
 pub mod Layout
-pub mod Survey
-pub mod Fields
-pub mod Goals
-pub mod Verdict
-pub mod Load

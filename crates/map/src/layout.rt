@@ -1,11 +1,8 @@
-// How the work area holds a map (specs/Layout.antt): where the regions begin, the mark of a goal, and the word of an arc.
+// How the work area holds a map (specs/Layout.antt): where the regions begin, and the word of an arc.
 ghost use mathlib.Core.Path.{_≡_};
 ghost use Prim.Native.Nat.{_+_, _*_, _≤_, _<_};
 ghost use Rattle.map.specs.Layout.{parentsAt, endsAt, estimatesAt, goalsAt, arcsAt};
 ghost use Rattle.model.specs.Limits.{maxPlaces};
-
-// A goal's mark; every other place's is 0.
-pub const GOAL: u32 = 1;
 
 // What an arc's end counts in its word: above every cost.
 pub const END: u32 = 65536;

@@ -1,13 +1,7 @@
-// The map's type with the limits of document 01, the reader that judges an input, and the loading of an accepted map into lent words.
-mod fields;
-mod goals;
+// The map's type with the limits of document 01, the records of an input, and where a map lies in the work area.
 pub mod layout;
-pub mod load;
-mod record;
-mod survey;
-mod verdict;
+pub mod record;
 
-pub use verdict::judge;
 ghost use mathlib.Core.Path.{_≡_};
 ghost use Prim.Native.Nat.{_+_, _*_, _≤_};
 ghost use Rattle.model.specs.Limits.{maxPlaces, maxArcs};
@@ -74,9 +68,4 @@ impl Job {
             goals_at,
         }
     }
-}
-
-pub enum Judgement {
-    Refused(u32),
-    Accepted(Job),
 }

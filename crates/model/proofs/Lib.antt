@@ -1,3 +1,4 @@
+-- Laws of the definitions, in the order in which they rest on each other; the demands come last.
 pub mod Compute
 pub mod Runs
 pub mod Lists

@@ -1,3 +1,4 @@
+-- Laws of the tree and of the place in hand.
 pub mod Eight
 pub mod Eightfold
 pub mod Stores

@@ -1,3 +1,4 @@
+-- The open list as a list of keys, and the tree that holds it.
 pub mod Keys
 pub mod Size
 pub mod Entry

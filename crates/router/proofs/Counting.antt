@@ -21,7 +21,7 @@ use Rattle.model.proofs.Indices.{Different, different-repeats}
 use Rattle.model.proofs.Endings.{IsSpent, IsNoRoute, IsRouted, search-ends}
 use Rattle.model.proofs.RouteSheets.{route-possible}
 use Rattle.model.proofs.Sheets.{Possible}
-use Rattle.search.specs.Area.{Follows, first, after}
+use Rattle.scans.specs.Area.{Follows, first, after}
 
 -- numbers that do not repeat and that all stand in a list are at most as many as the list has
 different-among : (xs ys : List ℕ) → repeats xs ≡ false → ((x : ℕ) → List·Memᴰ x xs → List·Memᴰ x ys) → length xs ≤ length ys

@@ -1,3 +1,4 @@
+-- How the steps together keep the promise of the call.
 pub mod Counting
 pub mod Routing
 pub mod Sheet

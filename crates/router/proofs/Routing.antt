@@ -6,12 +6,12 @@ use native.Mathlib.Omega.{arith}
 use lib.ListN.{length, take, replicate}
 use lib.Seq.{sets}
 use borrow.Author.Tests.{ltb-false}
-use Rattle.map.specs.Judge.{Judged}
+use Rattle.judge.specs.Judge.{Judged}
 use Rattle.map.specs.Layout.{endsAt, problemAt, Loaded}
 use Rattle.map.specs.declared.Job.{Job}
-use Rattle.map.specs.declared.Judgement.{Judgement}
-use Rattle.map.specs.declared.Judgement.the-variants as judgement
-use Rattle.map.specs.declared.Judgement.the-variants.{Refused}
+use Rattle.judge.specs.declared.Judgement.{Judgement}
+use Rattle.judge.specs.declared.Judgement.the-variants as judgement
+use Rattle.judge.specs.declared.Judgement.the-variants.{Refused}
 use Rattle.model.specs.Bytes.{Bytes}
 use Rattle.model.specs.Framing.{frame}
 use Rattle.model.specs.Problem.{Problem, Valid}

@@ -1,2 +1,3 @@
+-- The promise of the public call, and of its steps.
 pub mod Call
 pub mod Steps

@@ -3,7 +3,7 @@ use mathlib.Core.Path.{_≡_}
 use mathlib.Core.List.{List}
 use Prim.Native.Nat.{ℕ}
 use lib.ListN.{length}
-use Rattle.map.specs.Judge.{States}
+use Rattle.map.specs.Jobs.{States}
 use Rattle.map.specs.declared.Job.{Job}
 use Rattle.model.specs.Refusals.{Accepted}
 use Rattle.model.specs.Answer as model

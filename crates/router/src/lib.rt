@@ -1,6 +1,6 @@
 // The public call: from an input and two lent areas to the answer, with the route sheet in the sheet area.
+use judge::Judgement;
 use map::Job;
-use map::Judgement;
 use search::Verdict;
 ghost use mathlib.Core.Path.{_≡_};
 ghost use lib.ListN.{set};
@@ -96,7 +96,7 @@ fn accepted(input: &[u8], job: Job, work: &mut [u32], sheet: &mut [u8]) -> Answe
     ensures { λ r. ⌜ Routed (now (input .entry)) (now (work .entry)) (now (sheet .entry)) r (now (work .exit)) (now (sheet .exit)) ⌝ }
 {
     let map = job.map;
-    map::load::load(input, job, work);
+    load::load(input, job, work);
     let verdict = search::search(work, map, job.start, job.allowance);
     let bytes = write_sheet(verdict, job, work, sheet);
     let need = map.words();
@@ -107,7 +107,7 @@ fn accepted(input: &[u8], job: Job, work: &mut [u32], sheet: &mut [u8]) -> Answe
 pub fn route(input: &[u8], work: &mut [u32], sheet: &mut [u8]) -> Answer
     ensures { λ r. ⌜ Routed (now (input .entry)) (now (work .entry)) (now (sheet .entry)) r (now (work .exit)) (now (sheet .exit)) ⌝ }
 {
-    let judgement = map::judge(input, work.len(), sheet.len());
+    let judgement = judge::judge(input, work.len(), sheet.len());
     match judgement {
         Judgement::Refused(number) => refused(number),
         Judgement::Accepted(job) => accepted(input, job, work, sheet),

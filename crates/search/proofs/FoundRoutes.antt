@@ -13,9 +13,9 @@ use Rattle.model.proofs.LeastCosts.{entry-place}
 use Rattle.model.proofs.Keys.{first-goal-some}
 use Rattle.model.proofs.Routes.{parentBy-some, parent-via}
 use Rattle.model.proofs.Same.{option-ext, same-least-image}
-use Rattle.search.specs.Area.{labels, parentAt, Follows, first, after, HasParents}
-use Rattle.search.specs.Query.{Agrees, FoundAt}
-use Rattle.search.specs.Scans.{parentFrom}
+use Rattle.scans.specs.Area.{labels, parentAt, Follows, first, after, HasParents}
+use Rattle.query.specs.Query.{Agrees, FoundAt}
+use Rattle.scans.specs.Scans.{parentFrom}
 
 -- costs below d that are the same give the same parents to a place of cost d
 same-parent-by : (a : Arc) (v d : ℕ) (o e : Option ℕ) → 1 ≤ a .cost → ((x : ℕ) → o ≡ some x → x < d → e ≡ some x)

@@ -1,17 +1,4 @@
-pub mod Words
-pub mod Settling
-pub mod Counting
-pub mod Front
-pub mod Least
-pub mod Rows
-pub mod NextLimit
-pub mod Parents
-pub mod Regions
-pub mod Coherence
-pub mod Arcs
-pub mod QueryUnderway
-pub mod Expansions
-pub mod Answers
+-- Laws of the rounds underway.
 pub mod FoundRoutes
 pub mod RoundAfter
 pub mod RoundsUnderway

@@ -6,8 +6,8 @@ use Rattle.model.specs.Rounds.{after}
 use Rattle.model.proofs.Lists.{none-some}
 use Rattle.search.specs.Underway.{Settled, RoundAfter}
 use Rattle.search.specs.declared.High.the-variants.{At}
-use Rattle.search.specs.declared.Outcome.{Outcome}
-use Rattle.search.specs.declared.Outcome.the-variants.{Ended, Over, Found, None}
+use Rattle.query.specs.declared.Outcome.{Outcome}
+use Rattle.query.specs.declared.Outcome.the-variants.{Ended, Over, Found, None}
 use Rattle.search.specs.declared.Round.{Round}
 
 module _ (round : Round) (limit : ℕ) (o : Outcome) where

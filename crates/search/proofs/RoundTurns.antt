@@ -18,14 +18,14 @@ use Rattle.model.specs.Rounds.{firstRound, limitOf, ask, next, trace, search}
 use Rattle.model.specs.Routes.{routeTo}
 use Rattle.model.specs.Answer.{routed, searched}
 use Rattle.model.proofs.Laws as laws
-use Rattle.search.specs.Area.{Follows}
-use Rattle.search.specs.Query.{outcomeOf, Askable, Answered, FoundAt}
+use Rattle.scans.specs.Area.{Follows}
+use Rattle.query.specs.Query.{outcomeOf, Askable, Answered, FoundAt}
 use Rattle.search.specs.Rounds.{highOf, roundOf, Searched}
 use Rattle.search.specs.Underway.{RoundAfter, GoalLabelled, Parented, Underway, BetweenQueries}
-use Rattle.search.specs.declared.Asked.{Asked}
+use Rattle.query.specs.declared.Asked.{Asked}
 use Rattle.search.specs.declared.High.the-variants.{Unset}
-use Rattle.search.specs.declared.Outcome.{Outcome}
-use Rattle.search.specs.declared.Outcome.the-variants.{Ended, Over, Found, None}
+use Rattle.query.specs.declared.Outcome.{Outcome}
+use Rattle.query.specs.declared.Outcome.the-variants.{Ended, Over, Found, None}
 use Rattle.search.specs.declared.Round.{Round}
 use Rattle.search.specs.declared.Verdict.{Verdict}
 use Rattle.search.specs.declared.Verdict.the-variants.{Spent, NoRoute}

@@ -1,7 +1,3 @@
-pub mod Front
-pub mod Area
-pub mod Scans
-pub mod Query
-pub mod State
+-- The promise of the search, and its rounds underway.
 pub mod Rounds
 pub mod Underway

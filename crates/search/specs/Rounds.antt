@@ -9,7 +9,7 @@ use Rattle.model.specs.Rounds as model
 use Rattle.model.specs.Rounds.{search}
 use Rattle.model.specs.Answer as answer
 use Rattle.model.specs.Answer.{Ending, searched}
-use Rattle.search.specs.Area.{Follows}
+use Rattle.scans.specs.Area.{Follows}
 use Rattle.search.specs.declared.High.{High}
 use Rattle.search.specs.declared.High.the-variants.{Unset, At}
 use Rattle.search.specs.declared.Round.{Round}

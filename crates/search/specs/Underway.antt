@@ -11,11 +11,11 @@ use Rattle.model.specs.Query as query
 use Rattle.model.specs.Rounds as model
 use Rattle.model.specs.Rounds.{after, Step, trace}
 use Rattle.model.specs.Terms.{Run}
-use Rattle.search.specs.Area.{labels, Labelled, HasParents}
-use Rattle.search.specs.Query.{outcomeOf}
+use Rattle.scans.specs.Area.{labels, Labelled, HasParents}
+use Rattle.query.specs.Query.{outcomeOf}
 use Rattle.search.specs.Rounds.{highOf, roundOf}
 use Rattle.search.specs.declared.High.{High}
-use Rattle.search.specs.declared.Outcome.{Outcome}
+use Rattle.query.specs.declared.Outcome.{Outcome}
 use Rattle.search.specs.declared.Round.{Round}
 use Rattle.search.specs.declared.Verdict.{Verdict}
 use Rattle.search.specs.declared.Verdict.the-variants.{Routed}

@@ -7,7 +7,7 @@ use Prim.Native.Nat.{ℕ, _+_, _<_}
 use native.Mathlib.Omega.{arith}
 use lib.ListN.{length}
 use Rattle.open_list.specs.Entry.{noKey}
-use Rattle.search.specs.Area.{wordOr, parentAt}
+use Rattle.scans.specs.Area.{wordOr, parentAt}
 use Rattle.sheet_writer.specs.Places.{Earlier, HasParent, Leads, Counting, Counted}
 use Rattle.sheet_writer.proofs.Follows.{up-to, up-to-length, place-below, one-list, none-leads, place-leads}
 

@@ -10,8 +10,8 @@ use lib.ListN.{length, getD, length-append}
 use Rattle.open_list.specs.Entry.{noKey}
 use Rattle.model.proofs.Indices.{getD-default}
 use Rattle.map.specs.Layout.{parentsAt}
-use Rattle.search.specs.Area.{Follows, first, after, wordOr, parentAt}
-use Rattle.search.proofs.Words.{wordOr-none, wordOr-some}
+use Rattle.scans.specs.Area.{Follows, first, after, wordOr, parentAt}
+use Rattle.scans.proofs.Words.{wordOr-none, wordOr-some}
 use Rattle.sheet_writer.specs.Places.{Earlier}
 
 -- the places up to v are those before it, and v

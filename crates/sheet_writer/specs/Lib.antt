@@ -1,3 +1,4 @@
+-- What is written to the sheet area.
 pub mod Header
 pub mod Places
 pub mod Write

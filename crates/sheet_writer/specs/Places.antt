@@ -8,7 +8,7 @@ use lib.Seq.{sets}
 use Rattle.map.specs.Layout.{endsAt}
 use Rattle.model.specs.Limits.{maxPlaces}
 use Rattle.model.specs.Bytes.{put16s}
-use Rattle.search.specs.Area.{Follows, wordOr}
+use Rattle.scans.specs.Area.{Follows, wordOr}
 
 -- the places s are those before a place with this parent: none where it has no parent
 unfoldable pub Earlier : ℕ → List ℕ → Option ℕ → List ℕ → Type 0

@@ -2,7 +2,7 @@
 use map::layout;
 ghost use Rattle.sheet_writer.specs.Write.{FitsNoRoute, NoRouteWritten, FitsRoute, RouteWritten};
 ghost use mathlib.Core.Path.{_≡_};
-ghost use Rattle.search.specs.Area.{wordOr, parentAt};
+ghost use Rattle.scans.specs.Area.{wordOr, parentAt};
 ghost use Rattle.sheet_writer.specs.Header.{FitsHeader, HeaderWritten};
 ghost use Rattle.sheet_writer.specs.Places.{HasParent, Leads, Counted, FitsPlaces, PlacesWritten};
 

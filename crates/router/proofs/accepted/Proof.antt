@@ -5,7 +5,7 @@ use Prim.Native.Nat.{ℕ, _+_, _*_, _≤_}
 use native.Mathlib.Omega.{arith}
 use lib.ListN.{length, drop, replicate}
 use Rattle.map.specs.Layout.{Loadable}
-use Rattle.map.proofs.Known.{known}
+use Rattle.load.proofs.Known.{known}
 use Rattle.model.specs.Answer.{overFront}
 use Rattle.model.specs.Bytes.{Bytes}
 use Rattle.router.proofs.Routing.{enough-words, writable, searched-routed}

@@ -1,0 +1,51 @@
+// A map with its job, and the input that it is written as.
+#pragma once
+#include <cstdint>
+#include <vector>
+
+#include "plain.hpp"
+
+struct Arc {
+    uint32_t from, to, cost;
+};
+
+struct Map {
+    const char *name = "";
+    uint32_t places = 0, start = 0, allowance = 0;
+    std::vector<uint32_t> goals, estimate; // an estimate of none: the place has no record
+    std::vector<Arc> arcs;
+};
+
+inline void put(std::vector<uint8_t> &out, uint32_t x, int bytes)
+{
+    for (int i = 0; i < bytes; i++)
+        out.push_back(static_cast<uint8_t>(x >> 8 * i));
+}
+
+inline std::vector<uint8_t> input_of(const Map &m)
+{
+    std::vector<uint8_t> out;
+    auto record = [&](uint32_t length, uint32_t kind) { put(out, length, 2), put(out, kind, 2); };
+    uint32_t goals = static_cast<uint32_t>(m.goals.size());
+    record(4, 1);
+    put(out, m.places, 2);
+    put(out, static_cast<uint32_t>(m.arcs.size()), 2);
+    for (const Arc &a : m.arcs) {
+        record(6, 2);
+        for (uint32_t x : {a.from, a.to, a.cost})
+            put(out, x, 2);
+    }
+    for (uint32_t v = 0; v < m.places; v++)
+        if (m.estimate[v] != plain::none) {
+            record(6, 3);
+            put(out, v, 2);
+            put(out, m.estimate[v], 4);
+        }
+    record(8 + 2 * goals, 4);
+    put(out, m.start, 2);
+    put(out, m.allowance, 4);
+    put(out, goals, 2);
+    for (uint32_t g : m.goals)
+        put(out, g, 2);
+    return out;
+}

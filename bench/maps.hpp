@@ -1,0 +1,168 @@
+// The maps that bench.cpp times. Each is drawn from a generator of its own, so that it is the same in every run and whatever stands before it in
+// the list, and grids that differ only in their estimates have the same arcs.
+#pragma once
+#include <algorithm>
+#include <random>
+
+#include "map.hpp"
+
+namespace maps {
+
+using plain::none;
+
+// with an allowance that is never spent
+inline Map empty(const char *name, uint32_t places, uint32_t start, uint32_t goal)
+{
+    Map m;
+    m.name = name;
+    m.places = places;
+    m.start = start;
+    m.allowance = 236 * places;
+    m.goals = {goal};
+    m.estimate.assign(places, none);
+    return m;
+}
+
+class Chance {
+  public:
+    uint32_t below(uint32_t n) { return static_cast<uint32_t>(generator_() % n); }
+
+  private:
+    std::mt19937 generator_{7};
+};
+
+// by sweeps over all arcs until nothing changes; none where the goal cannot be reached
+inline std::vector<uint32_t> costs_to_goal(const Map &m)
+{
+    std::vector<uint32_t> least(m.places, none);
+    least[m.goals[0]] = 0;
+    for (bool changed = true; changed;) {
+        changed = false;
+        for (const Arc &a : m.arcs)
+            if (least[a.to] != none && least[a.to] + a.cost < least[a.from]) {
+                least[a.from] = least[a.to] + a.cost;
+                changed = true;
+            }
+    }
+    return least;
+}
+
+// about `share` per cent of the places get an estimate, 95 % of the least cost to the goal, so that none overstates
+inline void add_estimates(Map &m, Chance &chance, uint32_t share)
+{
+    std::vector<uint32_t> least = costs_to_goal(m);
+    for (uint32_t v = 0; v < m.places; v++)
+        if (chance.below(100) < share)
+            m.estimate[v] = least[v] == none ? 0 : static_cast<uint32_t>(uint64_t{least[v]} * 95 / 100);
+}
+
+inline void both_ways(Map &m, uint32_t u, uint32_t v, uint32_t cost)
+{
+    m.arcs.push_back({u, v, cost});
+    m.arcs.push_back({v, u, cost});
+}
+
+// from corner to corner; with shelves the rows are joined at every eighth place only
+inline Map grid(uint32_t side, bool shelves, uint32_t share)
+{
+    Map m = empty(shelves ? "shelves" : "grid", side * side, 0, side * side - 1);
+    Chance chance;
+    for (uint32_t v = 0; v < m.places; v++) {
+        uint32_t x = v % side;
+        if (x + 1 < side)
+            both_ways(m, v, v + 1, 1 + chance.below(9));
+        if (v + side < m.places && (!shelves || x % 8 == 0))
+            both_ways(m, v, v + side, 1 + chance.below(9));
+    }
+    add_estimates(m, chance, share);
+    return m;
+}
+
+inline Map random(uint32_t places, uint32_t share)
+{
+    Map m = empty("random", places, 0, places - 1);
+    Chance chance;
+    for (uint32_t i = 0; i < 4 * places; i++) {
+        uint32_t from = chance.below(places), to = chance.below(places);
+        m.arcs.push_back({from, to, 1 + chance.below(1000)});
+    }
+    add_estimates(m, chance, share);
+    return m;
+}
+
+// one place with an arc to all others: the open list at its longest
+inline Map star(uint32_t places)
+{
+    Map m = empty("star", places, 0, places - 1);
+    Chance chance;
+    for (uint32_t v = 1; v + 1 < places; v++) {
+        m.arcs.push_back({0, v, 1 + chance.below(60000)});
+        m.arcs.push_back({v, places - 1, 60000});
+    }
+    return m;
+}
+
+// 4,000 places that are joined by way of 90 others only
+inline Map hubs()
+{
+    Map m = empty("hubs", 4096, 1, 4095);
+    Chance chance;
+    for (uint32_t v = 0; v < 4000; v++) {
+        m.arcs.push_back({4000 + v % 90, v, 1 + chance.below(50)});
+        m.arcs.push_back({v, 4000 + chance.below(90), 1 + chance.below(50)});
+    }
+    m.arcs.push_back({3999, 4095, 9});
+    add_estimates(m, chance, 60);
+    return m;
+}
+
+inline Map chain()
+{
+    Map m = empty("chain", 4096, 0, 4095);
+    Chance chance;
+    for (uint32_t v = 0; v + 1 < m.places; v++)
+        m.arcs.push_back({v, v + 1, 1 + chance.below(100)});
+    add_estimates(m, chance, 60);
+    return m;
+}
+
+// Martelli's family: every set of places between the start k and place 1 gives another cost of 1, and with these estimates, which do not
+// overstate, A* comes to the dearest first and expands 2 to the power k - 1 times
+inline Map martelli(uint32_t k)
+{
+    Map m = empty("Martelli", k + 1, k, 0);
+    for (uint32_t j = 1; j <= k; j++)
+        for (uint32_t i = 1; i < j; i++)
+            m.arcs.push_back({j, i, (1u << (j - 2)) - (1u << (i - 1)) + j - i});
+    m.arcs.push_back({1, 0, 1u << (k - 1)});
+    for (uint32_t j = 1; j < k; j++)
+        m.estimate[j] = (1u << (j - 1)) + j - 1;
+    return m;
+}
+
+// Mero's kind: the start sees k places, whose estimates fall in steps, and each of them that A* takes makes the chain behind them cheaper
+inline Map mero(uint32_t k)
+{
+    uint32_t start = 2 * k, goal = 2 * k + 1;
+    Map m = empty("Mero", 2 * k + 2, start, goal);
+    for (uint32_t i = 0; i < k; i++) {
+        m.arcs.push_back({start, i, 1});
+        m.arcs.push_back({i, k, 1 + i});
+        m.arcs.push_back({k + i, std::min(k + i + 1, 2 * k - 1), 1});
+        m.estimate[i] = 3 * k - i;
+    }
+    m.arcs.push_back({2 * k - 1, goal, 3 * k});
+    return m;
+}
+
+inline std::vector<Map> all()
+{
+    return {
+        grid(16, false, 60), grid(23, false, 60), grid(32, false, 60), grid(45, false, 60), grid(64, false, 60),
+        grid(64, false, 0), grid(64, false, 95), grid(64, true, 0), grid(64, true, 60), grid(64, true, 95),
+        random(4096, 0), random(4096, 60), random(4096, 100), random(2000, 95), // the third has all arcs and estimates that a map can have
+        star(4096), star(300), hubs(), chain(), martelli(16), mero(1000),
+    };
+}
+
+} // namespace maps

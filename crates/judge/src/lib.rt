@@ -1,0 +1,13 @@
+// Judges an input: the lowest of document 01's numbers 1 to 15 whose condition holds, or what an accepted input states.
+mod fields;
+mod goals;
+mod survey;
+mod verdict;
+
+use map::Job;
+pub use verdict::judge;
+
+pub enum Judgement {
+    Refused(u32),
+    Accepted(Job),
+}

@@ -1,0 +1,10 @@
+-- Laws of the passes, and how the last one leaves the map.
+pub mod RecordWords
+pub mod Counting
+pub mod Sums
+pub mod Placing
+pub mod Marking
+pub mod Regions
+pub mod Known
+pub mod Passes
+pub mod Loading

@@ -1,0 +1,183 @@
+-- What a query answers: at a goal, at the end of its budget or of the allowance, and when nothing is open. Assumes nothing.
+use mathlib.Core.Path.{_≡_, refl, sym, _∙_}
+use mathlib.Core.Bool.{Bool, true, false, false≢true}
+use mathlib.Core.List.{List}
+use mathlib.Core.Option.{Option, none, some}
+use Prim.Native.Nat.{ℕ, _<_}
+use native.Mathlib.Omega.{arith}
+use lib.ListN.{drop}
+use lib.Seq.{ext-getD}
+use Rattle.open_list.specs.Entry.{noKey}
+use Rattle.map.specs.Layout.{endsAt, problemAt}
+use Rattle.model.specs.Problem.{Problem, IsGoal, Valid}
+use Rattle.model.specs.Costs.{costAt, table}
+use Rattle.model.specs.Query as model
+use Rattle.model.specs.Query.{nextLimit, notOver, query}
+use Rattle.model.proofs.LeastCosts.{table-length, entry-path}
+use Rattle.query.specs.Front.{Front, FirstOpen, NoneOpen, countBelow}
+use Rattle.scans.specs.Area.{labels, settledAt, IsNextLimit}
+use Rattle.query.specs.Query.{Agrees, Answered, outcomeOf}
+use Rattle.query.specs.State.{Searching, AllSettled}
+use Rattle.query.specs.declared.Outcome.the-variants.{Ended, Over, Found, None}
+use Rattle.query.specs.declared.Asked.{Asked}
+use Rattle.query.proofs.Settling.{not-both, path-after}
+use Rattle.query.proofs.Front.{settled-least, labels-are-table, goal-found, goal-outcome, over-outcome, spent-cost, all-settled}
+use Rattle.scans.proofs.Words.{wordOr-none, wordOr-some, labels-length}
+use Rattle.map.proofs.Held.{problem-same}
+use Rattle.query.proofs.QueryUnderway.{Underway, label-below}
+
+-- the next limit that was found, as an outcome
+pub ended-none : (n count : ℕ) (w : List ℕ) (next : ℕ) → IsNextLimit n w next → next ≡ noKey → AllSettled n count w (record { spent = false; outcome = None; count = count; place = 0 })
+unfolding notOver
+ended-none n count w next i e =
+    record { lasts = refl; count-is = refl; outcome-is = λ start. rw (← (i .next start), wordOr-none next e) }
+
+pub ended-next : (n count : ℕ) (w : List ℕ) (next : ℕ) → IsNextLimit n w next → (next ≡ noKey → ⊥) → AllSettled n count w (record { spent = false; outcome = Ended next; count = count; place = 0 })
+unfolding notOver
+ended-next n count w next i e =
+    record { lasts = refl; count-is = refl; outcome-is = λ start. rw (← (i .next start), wordOr-some next e) }
+
+-- words with the same map are answered the same
+pub answered-same : (n start limit budget left : ℕ) (w₀ w₁ w : List ℕ) (r : Asked) → drop (endsAt n) w₁ ≡ drop (endsAt n) w₀
+    → Answered n start limit budget left w₁ w r → Answered n start limit budget left w₀ w r
+answered-same n start limit budget left w₀ w₁ w r same a =
+    let p = problem-same n w₁ w₀ same start in
+    record {
+      same-map = a .same-map ∙ same;
+      spent = rw p at (a .spent);
+      cut = a .cut;
+      lasts = rw p at (a .lasts);
+      outcome = rw p at (a .outcome);
+      count = rw p at (a .count);
+      found = rw p at (a .found);
+    }
+
+module _ {n m arcs start limit budget left : ℕ} {w₀ : List ℕ} {hand : ℕ} {w : List ℕ} {count : ℕ} (under : Underway n m arcs start limit budget left w₀ hand w count) where
+  s : Searching n m start limit budget left w₀ hand w count
+  s = under .search
+
+  p : Problem
+  p = problemAt n start w₀
+
+  label : ℕ → Option ℕ
+  label v = costAt (labels n w) v
+
+  settled : ℕ → Bool
+  settled = settledAt n m hand w
+
+  front : Front p limit label settled
+  unfolding p label settled
+  front = s .front
+
+  valid : Valid p
+  unfolding p
+  valid = under .ask .holds .valid
+
+  counted : countBelow settled (p .places) ≡ count
+  unfolding p settled problemAt
+  counted = s .counted
+
+  -- nothing is open: the labels are the table, and the outcome is by its next limit
+  pub answered-settled : NoneOpen (λ v. costAt (labels n w) v) (settledAt n m hand w) → (r : Asked) → AllSettled n count w r → Answered n start limit budget left w₀ w r
+  unfolding p label settled problemAt notOver
+  answered-settled none-open r a =
+      let result = all-settled p valid limit label settled front budget none-open (omega (arith, counted, s .in-budget)) in
+      let cost : query p limit budget .cost ≡ count = result .0 ∙ counted in
+      let outcome : outcomeOf (r .outcome) ≡ notOver none (nextLimit p (table p limit)) =
+      a .outcome-is start ∙ rw (problem-same n w w₀ (s .same-map) start, labels-table) in
+      record {
+        same-map = s .same-map;
+        spent = λ t. absurd (not-both t (a .lasts));
+        cut = λ t. absurd (not-both t (a .lasts));
+        lasts = λ t. omega (arith, cost, s .lasts);
+        outcome = λ t. outcome ∙ sym (ends (nextLimit p (table p limit)) refl (result .1 .0) (result .1 .1));
+        count = λ t. a .count-is ∙ sym cost;
+        found = λ t q. absurd (not-found (nextLimit p (table p limit)) (rw q at outcome));
+      }
+    where
+      labels-table : labels n w ≡ table p limit
+      labels-table =
+          ext-getD none (labels n w) (table p limit) (labels-length n w (omega (arith, s .coherent .room .words)) ∙ sym (table-length p limit))
+          (λ v h. labels-are-table p valid limit label settled front none-open v)
+
+      ends : (o : Option ℕ) → nextLimit p (table p limit) ≡ o → ((x : ℕ) → nextLimit p (table p limit) ≡ some x → query p limit budget .outcome ≡ model.ended x)
+          → (nextLimit p (table p limit) ≡ none → query p limit budget .outcome ≡ model.nothing) → query p limit budget .outcome ≡ notOver none o
+      ends (some x) e f g = f x e
+      ends none e f g = g e
+
+      not-found : (o : Option ℕ) → model.found ≡ notOver none o → ⊥
+      not-found (some x) e = let z : _≡_ {A = ℕ} 0 1 = cc in omega arith
+      not-found none e = let z : _≡_ {A = ℕ} 0 1 = cc in omega arith
+
+  module _ {v d : ℕ} (f : FirstOpen (λ u. costAt (labels n w) u) (settledAt n m hand w) v d) where
+    first : FirstOpen label settled v d
+    unfolding label settled
+    first = f
+
+    labels-agree : Agrees (labels n w) (table (problemAt n start w₀) limit) d
+    unfolding p label settled
+    labels-agree = record { entry-label = λ u x e l. entry u x e l (settled u) refl; label-entry = λ u x e l. own u x e l (settled u) refl }
+      where
+        entry : (u x : ℕ) → costAt (table p limit) u ≡ some x → x < d → (b : Bool) → settled u ≡ b → label u ≡ some x
+        entry u x e l true o =
+            let y = front .labelled u o in
+            let least = settled-least p valid limit label settled front u (y .0) o (y .1) in
+            let same : y .0 ≡ x = cc in
+            rw same at (y .1)
+        entry u x e l false o = absurd (omega (arith, path-after p valid limit label settled front v d first u x (entry-path p limit u x e) o .costs))
+
+        own : (u x : ℕ) → label u ≡ some x → x < d → (b : Bool) → settled u ≡ b → costAt (table p limit) u ≡ some x
+        own u x e l true o = settled-least p valid limit label settled front u x o e
+        own u x e l false o = absurd (omega (arith, first .least u x o e))
+
+    -- the first open place is a goal
+    pub answered-goal : IsGoal (problemAt n start w₀) v → Answered n start limit budget left w₀ w (record { spent = false; outcome = Found; count = count; place = v })
+    unfolding p label
+    answered-goal goal =
+        let result = goal-outcome p valid limit label settled front v d budget first goal (omega (arith, counted, s .in-budget)) in
+        let cost : query p limit budget .cost ≡ count = result .1 ∙ counted in
+        record {
+          same-map = s .same-map;
+          spent = λ t. absurd (false≢true t);
+          cut = λ t. absurd (false≢true t);
+          lasts = λ t. omega (arith, cost, s .lasts);
+          outcome = λ t. sym (result .0);
+          count = λ t. sym cost;
+          found = λ t q. record {
+            cost = d;
+            is-first = goal-found p valid limit label settled front v d first goal;
+            label = first .is-labelled;
+            agrees = labels-agree;
+            label-below = label-below under;
+          };
+        }
+
+    -- it is none, and the budget is used up
+    pub answered-over : (IsGoal (problemAt n start w₀) v → ⊥) → count ≡ budget → Answered n start limit budget left w₀ w (record { spent = false; outcome = Over; count = count; place = 0 })
+    unfolding p
+    answered-over no-goal b =
+        let result = over-outcome p valid limit label settled front v d budget first no-goal (counted ∙ b) in
+        record {
+          same-map = s .same-map;
+          spent = λ t. absurd (false≢true t);
+          cut = λ t. absurd (false≢true t);
+          lasts = λ t. omega (arith, result .1, s .lasts);
+          outcome = λ t. sym (result .0);
+          count = λ t. b ∙ sym (result .1);
+          found = λ t q. absurd (let z : _≡_ {A = ℕ} 0 1 = cc in omega arith);
+        }
+
+    -- it is none, the budget is not used up, and what is left of the allowance is
+    pub answered-spent : (IsGoal (problemAt n start w₀) v → ⊥) → (count ≡ budget → ⊥) → count ≡ left
+        → Answered n start limit budget left w₀ w (record { spent = true; outcome = Over; count = count; place = 0 })
+    unfolding p
+    answered-spent no-goal b l =
+        record {
+          same-map = s .same-map;
+          spent = λ t. spent-cost p valid limit label settled front v d budget left first no-goal (counted ∙ l) (omega (arith, s .in-budget));
+          cut = λ t. l;
+          lasts = λ t. absurd (false≢true (sym t));
+          outcome = λ t. absurd (false≢true (sym t));
+          count = λ t. absurd (false≢true (sym t));
+          found = λ t q. absurd (false≢true (sym t));
+        }

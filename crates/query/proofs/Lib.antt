@@ -1,0 +1,10 @@
+-- Laws of a query underway, from the first place to its outcome.
+pub mod Settling
+pub mod Counting
+pub mod Front
+pub mod Regions
+pub mod Coherence
+pub mod Arcs
+pub mod QueryUnderway
+pub mod Expansions
+pub mod Answers

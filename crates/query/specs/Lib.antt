@@ -1,0 +1,4 @@
+-- A query's front, its state in the work area, and its promise.
+pub mod Front
+pub mod Query
+pub mod State

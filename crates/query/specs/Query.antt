@@ -1,0 +1,53 @@
+-- What one query asks of the area and leaves in it.
+use mathlib.Core.Path.{_≡_}
+use mathlib.Core.Bool.{true, false}
+use mathlib.Core.List.{List}
+use mathlib.Core.Option.{some}
+use Prim.Native.Nat.{ℕ, _^_, _≤_, _<_}
+use lib.ListN.{drop}
+use Rattle.map.specs.Layout.{Holds, problemAt, endsAt}
+use Rattle.model.specs.Problem.{Problem}
+use Rattle.model.specs.Costs.{Table, costAt, table}
+use Rattle.model.specs.Query as model
+use Rattle.model.specs.Query.{firstGoal, query}
+use Rattle.scans.specs.Area.{labels}
+use Rattle.query.specs.declared.Outcome.{Outcome}
+use Rattle.query.specs.declared.Outcome.the-variants.{Ended, Over, Found, None}
+use Rattle.query.specs.declared.Asked.{Asked}
+
+-- the code's outcome in document 01's words
+abbrev pub outcomeOf : Outcome → model.Outcome
+outcomeOf (Ended x) = model.ended x
+outcomeOf Over = model.over
+outcomeOf Found = model.found
+outcomeOf None = model.nothing
+
+-- the area holds a map, the start is within the limit, and the limit is one that the rounds can ask
+pub record Askable (n arcs start limit : ℕ) (w : List ℕ) : Type 0 where
+  pub holds : Holds n arcs start w
+  pub start-within : problemAt n start w .estimate start ≤ limit
+  pub limit-below : limit < 2 ^ 30
+
+-- the labels are the table's entries as far as the cost c
+pub record Agrees (label entry : Table) (c : ℕ) : Type 0 where
+  pub entry-label : (v d : ℕ) → costAt entry v ≡ some d → d < c → costAt label v ≡ some d
+  pub label-entry : (v d : ℕ) → costAt label v ≡ some d → d < c → costAt entry v ≡ some d
+
+-- the goal that was found, with its label, and the labels of all that is cheaper
+pub record FoundAt (p : Problem) (limit n place : ℕ) (w : List ℕ) : Type 0 where
+  pub cost : ℕ
+  pub is-first : firstGoal p (table p limit) ≡ some (record { cost = cost; place = place })
+  pub label : costAt (labels n w) place ≡ some cost
+  pub agrees : Agrees (labels n w) (table p limit) cost
+  pub label-below : (v d : ℕ) → costAt (labels n w) v ≡ some d → d < 2 ^ 30
+
+-- The query's outcome and cost are the definition's, unless it costs more than is left; where it is cut, it has counted what was left. The
+-- map is as before.
+pub record Answered (n start limit budget left : ℕ) (w₀ w : List ℕ) (r : Asked) : Type 0 where
+  pub same-map : drop (endsAt n) w ≡ drop (endsAt n) w₀
+  pub spent : r .spent ≡ true → left < query (problemAt n start w₀) limit budget .cost
+  pub cut : r .spent ≡ true → r .count ≡ left
+  pub lasts : r .spent ≡ false → query (problemAt n start w₀) limit budget .cost ≤ left
+  pub outcome : r .spent ≡ false → outcomeOf (r .outcome) ≡ query (problemAt n start w₀) limit budget .outcome
+  pub count : r .spent ≡ false → r .count ≡ query (problemAt n start w₀) limit budget .cost
+  pub found : r .spent ≡ false → r .outcome ≡ Found → FoundAt (problemAt n start w₀) limit n (r .place) w

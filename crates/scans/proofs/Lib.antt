@@ -1,0 +1,6 @@
+-- Laws of the passes over the arcs.
+pub mod Words
+pub mod Least
+pub mod Rows
+pub mod NextLimit
+pub mod ParentLaws

@@ -1,0 +1,126 @@
+#!/usr/bin/env python3
+"""Tests the examples and tests/listing.py, and runs program `route` on the examples if it is given: examples.py [PROGRAM]
+
+An example is examples/NAME, an input, and examples/NAME.txt, its listing with a comment that says what the program prints."""
+import pathlib
+import random
+import re
+import subprocess
+import sys
+
+from inputs import damaged, some_map
+from listing import listing, records, statements
+from program import SHEET, WORK, by_hand, printed, run
+from reference import Problem, refusal
+
+TESTS = pathlib.Path(__file__).parent
+EXAMPLES = TESTS.parent / 'examples'
+CLAIM = re.compile(r'Program route prints.*\n((?:#     [0-9 ]+\n)+)')
+
+# listings with the bytes that they give, in hex
+GOOD = [
+    ('', ''),
+    ('# nothing\n\n', ''),
+    ('places 3 arcs 7', '04000100 0300 0700'),
+    ('\tplaces 3 # two arcs\r\n arc from 0 to 1 cost 0#\r\narc from 9 to 00 cost 65535\r\n',
+     '04000100 0300 0200  06000200 0000 0100 0000  06000200 0900 0000 FFFF'),
+    ('estimate at 1 is 4294967295', '06000300 0100 FFFFFFFF'),
+    ('job start 1 allowance 2 goals', '08000400 0100 02000000 0000'),
+    ('job start 1 allowance 2 goals 5 4', '0C000400 0100 02000000 0200 0500 0400'),
+    ('record 65535\nrecord 2 aB 0102\nbytes 0A', '0000FFFF  03000200 AB0102  0A'),
+]
+
+# listings that are turned down, with the message
+BAD = [
+    ('places 4\n\nark from 0 to 1 cost 1', "line 3: unknown word 'ark'"),
+    ('places', 'line 1: expected: places N, or places N arcs M'),
+    ('places 65536', "line 1: '65536' is not a number from 0 to 65535"),
+    ('# two places\nplaces two', "line 2: 'two' is not a number from 0 to 65535"),
+    ('places 2 arcs -1', "line 1: '-1' is not a number from 0 to 65535"),
+    ('places 9\n' + 'arc from 0 to 1 cost 1\n' * 65536, "line 1: '65536' is not a number from 0 to 65535"),
+    ('places 2\narc 0 1 cost 1', 'line 2: expected: arc from PLACE to PLACE cost NUMBER'),
+    ('arc from 0 to 1 cost 1 2', 'line 1: expected: arc from PLACE to PLACE cost NUMBER'),
+    ('estimate at 0', 'line 1: expected: estimate at PLACE is NUMBER'),
+    ('estimate at 0 is 4294967296', "line 1: '4294967296' is not a number from 0 to 4294967295"),
+    ('job start 0 goals 3 allowance 944', 'line 1: expected: job start PLACE allowance NUMBER goals PLACE ...'),
+    ('job start 0 allowance 944 goals 3,4', "line 1: '3,4' is not a number from 0 to 65535"),
+    ('job start 0 allowance 944 goals' + ' 3' * 32764, 'line 1: a body of more than 65535 bytes'),
+    ('record', 'line 1: expected: record KIND HEX ...'),
+    ('record 5 0', "line 1: '0' is not bytes in hex"),
+    ('record 5 ' + '00' * 65536, 'line 1: a body of more than 65535 bytes'),
+    ('bytes', 'line 1: expected: bytes HEX ...'),
+    ('places 1\nbytes 0A 0G', "line 2: '0G' is not bytes in hex"),
+]
+
+
+def command(way, data):
+    done = subprocess.run([sys.executable, TESTS / 'listing.py', way], input=data, capture_output=True)
+    return done.returncode, done.stdout, done.stderr.decode()
+
+
+def overstates(data):
+    """whether some estimate is above the least cost from its place to a goal"""
+    p = Problem(data)
+    estimates, p.h = p.h, [0] * p.n
+    for place, estimate in enumerate(estimates):
+        p.start = place
+        costs = p.least(65535 * p.n)
+        if any(costs.get(goal, estimate) < estimate for goal in p.goals):
+            return True
+    return False
+
+
+def example(path, program):
+    """what is wrong with an example"""
+    text, data = path.read_text(), path.with_suffix('').read_bytes()
+    if command('records', text.encode()) != (0, data, ''):
+        yield 'the bytes are not what the listing gives'
+    code, back, _ = command('listing', data)
+    if code != 0 or [words for _, words in statements(back.decode())] != [words for _, words in statements(text)]:
+        yield 'the listing is not what the bytes give'
+    claim = CLAIM.search(text)
+    claim = claim and claim[1].replace('#     ', '')
+    if claim != printed(data):
+        yield f'the comment says {claim!r}, the second source {printed(data)!r}'
+    if program and claim != run(program, [data]):
+        yield f'the comment says {claim!r}, the program {run(program, [data])!r}'
+    if not refusal(data, WORK, SHEET) and overstates(data):
+        yield 'an estimate overstates'
+
+
+def examples(paths, program):
+    for path in paths:
+        yield from (f'{path.stem}: {fault}' for fault in example(path, program))
+    if len(list(EXAMPLES.iterdir())) != 2 * len(paths):
+        yield 'a file in examples/ is no part of an example'
+
+
+def round_trips(samples):
+    yield from (f'input {data.hex()}: its listing gives another' for data in samples if records(listing(data)) != data)
+
+
+def by_command():
+    wanted = [(text, (0, bytes.fromhex(data), '')) for text, data in GOOD] + [(text, (1, b'', message + '\n')) for text, message in BAD]
+    for text, want in wanted:
+        got = command('records', text.encode())
+        if got != want:
+            yield f'{text[:60]!r}: {got}, expected {want}'
+
+
+def inputs(rnd):
+    """document 01's runs, maps, damaged maps and any bytes"""
+    yield from (data for data, _ in by_hand())
+    for _ in range(300):
+        whole = some_map(rnd)
+        yield from (b''.join(whole), damaged(rnd, whole), rnd.randbytes(rnd.randrange(40)))
+
+
+def main(program=None):
+    paths, samples = sorted(EXAMPLES.glob('*.txt')), list(inputs(random.Random(4)))
+    wrong = [*examples(paths, program), *round_trips(samples), *by_command()]
+    print(*wrong, f'examples: {len(paths)} examples, {len(samples)} inputs, {len(GOOD) + len(BAD)} listings, {len(wrong)} wrong', sep='\n')
+    return wrong != [] or not paths or not samples
+
+
+if __name__ == '__main__':
+    sys.exit(main(*sys.argv[1:]))

@@ -1,0 +1,123 @@
+#!/usr/bin/env python3
+"""Turns a listing, a map and its job written as text, into the records of document 01, and back:
+
+listing.py records < LISTING > INPUT
+listing.py listing < INPUT > LISTING
+
+A line of a listing is one record; what follows a # is a comment.
+
+    places 4                            the head; its M is the number of arc lines, unless one is given: places 4 arcs 7
+    arc from 0 to 1 cost 1
+    estimate at 1 is 4
+    job start 0 allowance 944 goals 3   several goals: goals 3 5 9
+    record 6 01 00 FF                   any other record: its kind, then its body in hex
+    bytes 0A 00 04                      bytes that are no whole record, in hex
+
+Every input has a listing that gives it back, a damaged one too."""
+import sys
+
+from reference import arc, estimate, fits, frame, head, job, record, u16, u32
+
+FORMS = {
+    'places': 'places N, or places N arcs M',
+    'arc': 'arc from PLACE to PLACE cost NUMBER',
+    'estimate': 'estimate at PLACE is NUMBER',
+    'job': 'job start PLACE allowance NUMBER goals PLACE ...',
+    'record': 'record KIND HEX ...',
+    'bytes': 'bytes HEX ...',
+}
+
+
+def number(word, size):
+    """a number that fits a field of so many bytes; what document 01 refuses in it is let through"""
+    if not (word.isascii() and word.isdigit() and int(word) < 256 ** size):
+        raise ValueError(f'{word!r} is not a number from 0 to {256 ** size - 1}')
+    return int(word)
+
+
+def numbers(*words):
+    return [number(word, 2) for word in words]
+
+
+def unhex(words):
+    for word in words:
+        if len(word) % 2 or not set(word) <= set('0123456789abcdefABCDEF'):
+            raise ValueError(f'{word!r} is not bytes in hex')
+    return bytes.fromhex(''.join(words))
+
+
+def encode(words, arcs):
+    """one line's bytes, in a listing of so many arc lines"""
+    match words:
+        case ['places', n]:
+            return head(*numbers(n, str(arcs)))
+        case ['places', n, 'arcs', m]:
+            return head(*numbers(n, m))
+        case ['arc', 'from', u, 'to', v, 'cost', c]:
+            return arc(*numbers(u, v, c))
+        case ['estimate', 'at', v, 'is', h]:
+            return estimate(number(v, 2), number(h, 4))
+        case ['job', 'start', s, 'allowance', a, 'goals', *goals]:
+            return job(number(s, 2), number(a, 4), numbers(*goals))
+        case ['record', kind, *body]:
+            return record(number(kind, 2), unhex(body))
+        case ['bytes', _, *_]:
+            return unhex(words[1:])
+    raise ValueError(f'expected: {FORMS[words[0]]}' if words[0] in FORMS else f'unknown word {words[0]!r}')
+
+
+def statements(text):
+    """(line number, words) of the lines that say something"""
+    lines = enumerate((line.partition('#')[0].split() for line in text.split('\n')), 1)
+    return [(i, words) for i, words in lines if words]
+
+
+def records(text):
+    lines, data = statements(text), bytearray()
+    arcs = sum(words[0] == 'arc' for _, words in lines)
+    for i, words in lines:
+        try:
+            data += encode(words, arcs)
+        except OverflowError:  # each number fits its field by now, so it is the record's length that does not
+            raise ValueError(f'line {i}: a body of more than 65535 bytes')
+        except ValueError as wrong:
+            raise ValueError(f'line {i}: {wrong}')
+    return bytes(data)
+
+
+def decode(kind, body, arcs):
+    """one record's line, in a listing of so many arc lines"""
+    if not 1 <= kind <= 4 or not fits(kind, body):
+        return f'record {kind} {body.hex(" ").upper()}'.rstrip()
+    if kind == 1:
+        return f'places {u16(body, 0)}' + (f' arcs {u16(body, 2)}' if u16(body, 2) != arcs else '')
+    if kind == 2:
+        return f'arc from {u16(body, 0)} to {u16(body, 2)} cost {u16(body, 4)}'
+    if kind == 3:
+        return f'estimate at {u16(body, 0)} is {u32(body, 2)}'
+    return ' '.join([f'job start {u16(body, 0)} allowance {u32(body, 2)} goals', *(str(u16(body, i)) for i in range(8, len(body), 2))])
+
+
+def listing(data):
+    whole, _ = frame(data)
+    arcs = sum(kind == 2 and fits(kind, body) for kind, body in whole)
+    lines = [decode(kind, body, arcs) for kind, body in whole]
+    tail = data[sum(4 + len(body) for _, body in whole):]
+    if tail:
+        lines.append(f'bytes {tail.hex(" ").upper()}')
+    return ''.join(line + '\n' for line in lines)
+
+
+def main(words):
+    if words not in (['records'], ['listing']):
+        sys.exit(__doc__)
+    data = sys.stdin.buffer.read()
+    try:
+        out = records(data.decode(errors='backslashreplace')) if words == ['records'] else listing(data).encode()
+    except ValueError as wrong:
+        sys.exit(str(wrong))
+    sys.stdout.buffer.write(out)
+
+
+if __name__ == '__main__':
+    main(sys.argv[1:])
