@@ -49,9 +49,7 @@ class Pair {
     // both gave the same answer, of the number that is due, and left the same areas
     bool agree(uint32_t number) const
     {
-        const plain::Answer &a = answer_;
-        std::vector<uint32_t> other_seven = {a.number, a.cost, a.limit, a.floor, a.expansions, a.queries, a.sheet_bytes};
-        return seven_ == other_seven && work_ == other_work_ && sheet_ == other_sheet_ && a.number == number;
+        return seven_ == answer_.numbers() && work_ == other_work_ && sheet_ == other_sheet_ && answer_.number == number;
     }
 
     double router() const { return router_; }
@@ -75,7 +73,8 @@ class Pair {
     }
 
     std::vector<uint8_t> input_, sheet_, other_sheet_;
-    std::vector<uint32_t> work_, other_work_, seven_ = std::vector<uint32_t>(7);
+    std::vector<uint32_t> work_, other_work_;
+    std::array<uint32_t, 7> seven_{};
     plain::Router plain_;
     plain::Answer answer_;
     double router_ = 1e9, by_hand_ = 1e9;

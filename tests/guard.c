@@ -5,22 +5,9 @@
 #include <stdio.h>
 #include <stdlib.h>
 #include <string.h>
-#include <sys/mman.h>
-#include <unistd.h>
 
+#include "lent.h"
 #include "r3.h"
-
-static uint8_t *page_end(size_t room)
-{
-    size_t page = (size_t)sysconf(_SC_PAGESIZE);
-    room = (room + page - 1) / page * page;
-    uint8_t *p = mmap(NULL, room + page, PROT_READ | PROT_WRITE, MAP_PRIVATE | MAP_ANONYMOUS, -1, 0);
-    if (p == MAP_FAILED || mprotect(p + room, page, PROT_NONE) != 0) {
-        perror("guard");
-        exit(2);
-    }
-    return p + room;
-}
 
 int main(void)
 {

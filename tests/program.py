@@ -5,8 +5,9 @@ import subprocess
 import sys
 import time
 
+from by_hand import runs
 from inputs import damaged, some_map
-from reference import arc, estimate, head, job, route, u16
+from reference import arc, head, job, route, u16
 
 WORK, SHEET, INPUT = 16384, 8202, 65536
 
@@ -34,22 +35,10 @@ def printed(data):
 
 
 def by_hand():
-    """document 01's runs, with its own lines"""
-    arcs = head(4, 4) + arc(0, 1, 1) + arc(0, 2, 3) + arc(1, 2, 1) + arc(2, 3, 3)
-    a, high = (arcs + estimate(0, 0) + estimate(1, h) + estimate(2, 1) + estimate(3, 0) for h in (4, 9))
-    two, diamond = head(2, 1) + arc(1, 0, 1), head(4, 4) + arc(0, 1, 1) + arc(0, 2, 1) + arc(1, 3, 1) + arc(2, 3, 1)
-    yield a + job(0, 944, [3]), '0 5 10 0 16 10\n0 1 2 3\n'
-    yield a + job(0, 16, [3]), '0 5 10 0 16 10\n0 1 2 3\n'
-    yield a + job(0, 15, [3]), '16 0 0 5 15 10\n'
-    yield a + job(0, 0, [3]), '16 0 0 0 0 1\n'
-    yield high + job(0, 944, [3]), '0 6 8 0 7 6\n0 2 3\n'
-    yield a + job(3, 944, [3]), '0 0 0 0 0 1\n3\n'
-    yield two + job(0, 1, [1]), '17 0 0 0 1 1\n'
-    yield two + estimate(0, 7) + job(0, 1, [1]), '17 0 14 0 1 1\n'
-    yield diamond + job(0, 944, [3]), '0 2 2 0 10 6\n0 1 3\n'
-    yield head(2, 1) + arc(0, 1, 0) + job(0, 9, [1]), '7 0 0 0 0 0\n'
-    yield head(2, 1) + arc(0, 1, 1) + estimate(0, 268435456) + job(0, 9, [1]), '8 0 0 0 0 0\n'
-    yield b'', '4 0 0 0 0 0\n'
+    """document 01's runs with its own lines, and what its limits for the program say"""
+    for run in runs():
+        if run.line is not None and run.short == 0:
+            yield run.data, run.line + '\n' + (run.places + '\n' if run.places else '')
     yield head(1024, 0) + job(0, 0, [0]), '0 0 0 0 0 1\n0\n'  # takes all 16,384 words
     yield head(1024, 1) + arc(0, 0, 1) + job(0, 0, [0]), '14 0 0 0 0 0\n'
     yield bytes(INPUT + 1), 'too long\n'

@@ -1,7 +1,7 @@
 """Document 01 once more, in Python and as plainly as possible: the second source that tests hold the router's answers against."""
 import heapq
 
-PLACES, ARCS, ESTIMATE, GOALS = 4096, 16384, 268435455, 64
+PLACES, ARCS, COST, ESTIMATE, GOALS = 4096, 16384, 65535, 268435455, 64
 
 
 def u16(b, i):

@@ -1,0 +1,145 @@
+#!/usr/bin/env python3
+"""Makes the stored cases, which program `cases` and tests/answers.c read. Anew, from the repository's root:
+
+    g++ -std=c++17 -O2 -Ibench tests/least.cpp -o LEAST
+    python3 tests/cases.py LEAST > crates/cases/stdin
+
+crates/cases/stdout has the number of cases in each group.
+
+A case is 12 numbers of 4 bytes, little-endian: its group, bytes of the input, words lent, bytes lent, the seven numbers of the answer, and how many
+work words are 0 after the call; then the input; then the sheet. The answers are those of tests/reference.py. They must be what document 01 says of
+its own runs, and number and cost must be what the Boost Graph Library says of random maps; otherwise nothing is made."""
+import os
+import random
+import struct
+import subprocess
+import sys
+
+from by_hand import runs
+from edges import ends_of_fields, ends_of_records, refused
+from inputs import Graph, any_estimates, damaged, records_before_job, some_graph, some_map
+from reference import ARCS, COST, ESTIMATE, GOALS, PLACES, arc, estimate, head, job, route, u16
+
+DOCUMENT, REFUSALS, ENDS, CONSISTENT, GAPS, OVERSTATING, DAMAGED = range(7)
+NUMBERS = struct.Struct('<12I')
+STORED = os.path.join(os.path.dirname(__file__), '..', 'crates', 'cases', 'stdin')
+
+
+def needs(data):
+    """the words and bytes that an input asks for by its head"""
+    n, m = (u16(data, 4), u16(data, 6)) if len(data) >= 8 else (1, 0)
+    return 16 * n + 2 * m, 10 + 2 * n
+
+
+def case(group, data, words, room):
+    answer, sheet = route(data, words, room)
+    zeros = 0 if 1 <= answer[0] <= 15 else needs(data)[0]
+    return NUMBERS.pack(group, len(data), words, room, *answer, zeros) + data + sheet
+
+
+def documented():
+    for run in runs():
+        words, room = needs(run.data)
+        answer, sheet = route(run.data, words - run.short, room)
+        line, places = ' '.join(map(str, answer[:6])), ' '.join(str(u16(sheet, i)) for i in range(10, len(sheet), 2))
+        if any(said not in (None, given) for said, given in ((run.line, line), (run.places, places), (run.sheet, sheet.hex(' ').upper()))):
+            sys.exit(f'not as document 01 has it: {run}: {line}, {places}, {sheet.hex()}')
+        yield case(DOCUMENT, run.data, words - run.short, room)
+
+
+def refusals():
+    for data, words, room, number in refused():
+        if route(data, words, room)[0][0] != number:
+            sys.exit(f'not refused by {number}, with {words} words and {room} bytes lent: {data.hex()}')
+        yield case(REFUSALS, data, words, room)
+
+
+def whole_graph(rnd):
+    """as many places, arcs and goals as there may be, the goals at the far end"""
+    arcs = [(u, min(max(u + rnd.randint(-20, 40), 0), PLACES - 1), rnd.randint(1, 9)) for u in list(range(PLACES)) * (ARCS // PLACES)]
+    return Graph(PLACES, arcs, list(range(PLACES - GOALS, PLACES)))
+
+
+def largest(graph, far):
+    """the longest input that is not refused; one with an arc too many; and the longest route, with the highest cost and the highest limit"""
+    arcs, estimates = b''.join(arc(*a) for a in graph.arcs), b''.join(estimate(v, (d or 0) * 6 // 10) for v, d in enumerate(far))
+    data = head(PLACES, ARCS) + arcs + estimates + job(20, 236 * PLACES, graph.goals)
+    agree(data, far[20], False)
+    chain = b''.join(arc(v, v + 1, COST) for v in range(PLACES - 1)) + estimate(PLACES - 2, ESTIMATE)
+    return data, head(PLACES, ARCS + 1) + arcs + arc(0, 0, 1) + job(0, 9, [1]), head(PLACES, PLACES - 1) + chain + job(0, 236 * PLACES, [PLACES - 1])
+
+
+def least(program, graphs):
+    """each graph with the least cost from every place to a goal by Boost, None where there is none"""
+    text = []
+    for g in graphs:
+        text += [f'{g.places} {len(g.arcs)} {len(g.goals)}', *('%d %d %d' % a for a in g.arcs), *map(str, g.goals)]
+    lines = subprocess.run([program], input='\n'.join(text), stdout=subprocess.PIPE, text=True, check=True).stdout.splitlines()
+    return [(g, [None if word == '-' else int(word) for word in line.split()]) for g, line in zip(graphs, lines, strict=True)]
+
+
+def agree(data, cheapest, overstating):
+    """the answer, whose number and cost must be what Boost's least cost says"""
+    answer = route(data, *needs(data))[0]
+    right = answer[:2] == (17, 0) if cheapest is None else answer[0] == 0 and (answer[1] == cheapest or overstating and answer[1] > cheapest)
+    if not right:
+        sys.exit(f'least cost {cheapest} by Boost, {answer} by the reference: {data.hex()}')
+    return answer
+
+
+def some_estimates(rnd, graph, far):
+    """a part of the least cost, the same per cent for every place; 0 or any number up to it, or up to twice as much; or any number at all"""
+    way = rnd.randrange(4)
+    if way == 0:
+        part = rnd.choice([0, 50, 95, 100])
+        return [ESTIMATE if d is None else d * part // 100 for d in far]
+    if way == 3:
+        return any_estimates(rnd, graph)
+    return [rnd.choice([0, rnd.randint(0, 99 if d is None else way * d)]) for d in far]
+
+
+def group_of(graph, estimates, far):
+    if any(d is not None and h > d for h, d in zip(estimates, far)):
+        return OVERSTATING
+    return CONSISTENT if all(estimates[u] <= cost + estimates[v] for u, v, cost in graph.arcs) else GAPS
+
+
+def some_case(rnd, graph, far):
+    """a random map, most often with a route, and with an allowance around what its search needs, or far from it"""
+    estimates = some_estimates(rnd, graph, far)
+    group, records = group_of(graph, estimates, far), b''.join(records_before_job(rnd, graph, estimates))
+    start = rnd.choice([v for v in range(graph.places) if far[v] or rnd.random() < 0.1] or [0])
+    enough = 236 * graph.places
+    total = agree(records + job(start, enough, graph.goals), far[start], group == OVERSTATING)[4]
+    allowance = rnd.choice([enough, enough, 2 ** 32 - 1, total, total, max(total - 1, 0), rnd.randint(0, total), 0])
+    data = records + job(start, allowance, graph.goals)
+    return case(group, data, *(need + rnd.choice([0, 0, 1, 30]) for need in needs(data)))
+
+
+def some_damage(rnd):
+    records = some_map(rnd, range(1, 15))
+    return case(DAMAGED, damaged(rnd, records), *(need + rnd.choice([0, 1, -1]) for need in needs(records[0])))
+
+
+def all_cases(program):
+    rnd = random.Random(1)
+    sizes = [200] * 4 + [int(3 * 14 ** rnd.random()) for _ in range(496)]
+    whole, *graphs = least(program, [whole_graph(rnd), *(some_graph(rnd, places) for places in sizes)])
+    yield from documented()
+    yield from refusals()
+    yield from (case(ENDS, data, *needs(data)) for data in (*ends_of_fields(), *ends_of_records(), *largest(*whole)))
+    yield from (some_case(rnd, *graph) for graph in graphs)
+    yield from (some_damage(rnd) for _ in range(80))
+
+
+def stored():
+    """the numbers and the input of each stored case"""
+    with open(STORED, 'rb') as file:
+        while front := file.read(NUMBERS.size):
+            numbers = NUMBERS.unpack(front)
+            yield numbers, file.read(numbers[1])
+            file.seek(numbers[10], os.SEEK_CUR)
+
+
+if __name__ == '__main__':
+    sys.stdout.buffer.write(b''.join(all_cases(sys.argv[1])))

@@ -1,0 +1,72 @@
+"""Inputs at the edges, for tests/cases.py: every refusal of 1 to 13 alone and in pairs, and the ends of every range."""
+import itertools
+
+from reference import COST, ESTIMATE, GOALS, PLACES, arc, estimate, head, job, p16, record
+
+
+def broken(kinds):
+    """an input that has the conditions of these refusals, and asks for 52 words and 16 bytes"""
+    n, first, arcs, more = 3, head(3, 2), [arc(0, 1, 2), arc(1, 2, 2)], []
+    if 2 in kinds:
+        more.append(record(5, b''))
+    if 3 in kinds:
+        more.append(record(3, b'\0'))
+    if 4 in kinds:
+        more.append(first)
+    if 5 in kinds:
+        first = head(n, 7)
+    if 6 in kinds:
+        more.append(estimate(n, 1))
+    if 7 in kinds:
+        arcs[1] = arc(1, 2, 0)
+    if 8 in kinds:
+        more.append(estimate(0, ESTIMATE + 1))
+    if 9 in kinds:
+        more += [estimate(1, 1), estimate(1, 1)]
+    if 13 in kinds:
+        more.append(estimate(2, 4))
+    last = job(n if 11 in kinds else 0, 999, [2, 2] if 12 in kinds else [2])
+    return b''.join([first, *arcs, *more, last, last if 10 in kinds else b'', b'\0\0' if 1 in kinds else b''])
+
+
+def refused():
+    """the inputs with words and bytes lent, and the number that is the lowest"""
+    for kinds in itertools.chain([()], itertools.combinations(range(1, 14), 1), itertools.combinations(range(1, 14), 2)):
+        for words, room in ((52, 16), (51, 16), (52, 15), (51, 15), (0, 0)):
+            yield broken(kinds), words, room, min([*kinds, *[14] * (words < 52), *[15] * (room < 16)], default=0)
+
+
+def ends_of_fields():
+    """a field at the last value that is taken, and at the first that is not"""
+    one = head(3, 1) + arc(0, 1, 1)
+    for n in (0, 1, PLACES, PLACES + 1):
+        yield head(n, 0) + job(0, 0, [0])
+    for v in (0, 2, 3):
+        yield from (head(3, 1) + arc(v, 0, 1) + job(0, 708, [0]), head(3, 1) + arc(0, v, 1) + job(0, 708, [2]))
+        yield from (one + estimate(v, 0) + job(0, 708, [1]), one + job(v, 708, [1]))
+        yield from (one + job(0, 708, goals) for goals in ([v], [0, v], [v, 0]))
+    for cost in (0, 1, COST):
+        yield head(2, 1) + arc(0, 1, cost) + job(0, 472, [1])
+    for h in (0, 1, ESTIMATE, ESTIMATE + 1, 2 ** 32 - 1):
+        yield from (one + estimate(0, h) + job(0, 708, [1]), one + estimate(0, h) + job(0, 708, [2]), one + estimate(1, h) + job(0, 708, [1]))
+    for allowance in (0, 1, 2, 2 ** 32 - 1):
+        yield one + job(0, allowance, [1])
+    for k in (0, 1, GOALS, GOALS + 1):
+        yield head(100, 1) + arc(0, 99, 3) + job(0, 23600, list(range(100 - k, 100)))
+    for count in (0, 2, 65535):
+        yield one + job(0, 708, [1], count)
+
+
+def ends_of_records():
+    """a length or a kind around what is taken, bytes left at the end, and records missing, twice or out of order"""
+    one, end = head(3, 1) + arc(0, 1, 1), job(0, 708, [1])
+    yield from (b'', head(3, 0), end, one, end + one, end + head(3, 0), one + end + end, one + end + arc(0, 1, 1))
+    yield from (head(3, 0) + end + arc(0, 1, 1), head(3, 1) + end, one + arc(0, 1, 1) + end)
+    for kind in (0, 5, 256, 65535):
+        yield one + record(kind, b'') + end
+    for kind, length in ((1, 4), (2, 6), (3, 6), (4, 8), (4, 10)):
+        for size in (length - 1, length, length + 1):
+            yield from (one + record(kind, bytes(size)) + end, record(kind, bytes(size)) + one + end)
+    for length in range(5):
+        yield from (one + end + bytes(length), (one + end)[:-length - 1])
+    yield one + p16(65535) + p16(3) + end

@@ -1,0 +1,25 @@
+// A second search by other authors: the Boost Graph Library's Dijkstra.
+#pragma once
+#include <boost/graph/adjacency_list.hpp>
+#include <boost/graph/dijkstra_shortest_paths.hpp>
+
+#include <limits>
+
+#include "map.hpp"
+
+constexpr long unreached = std::numeric_limits<long>::max();
+
+// from each place to a goal
+inline std::vector<long> least_costs(const Map &m)
+{
+    using Graph = boost::adjacency_list<boost::vecS, boost::vecS, boost::directedS, boost::no_property, boost::property<boost::edge_weight_t, long>>;
+    Graph graph(m.places + 1); // the arcs backwards, and one more vertex with arcs of cost 0 to every goal
+    for (auto [from, to, cost] : m.arcs)
+        boost::add_edge(to, from, cost, graph);
+    for (uint32_t g : m.goals)
+        boost::add_edge(m.places, g, 0L, graph);
+    std::vector<long> far(m.places + 1, unreached);
+    auto kept = boost::make_iterator_property_map(far.begin(), boost::get(boost::vertex_index, graph));
+    boost::dijkstra_shortest_paths(graph, m.places, boost::distance_map(kept));
+    return far;
+}

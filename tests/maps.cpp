@@ -1,0 +1,123 @@
+// Fresh random maps against two other searches: maps [SEED]. The Boost Graph Library says whether a goal can be reached, and at what least cost;
+// plain.hpp says all seven numbers and what the lent areas hold after the call. A seed that was printed gives the same maps again.
+#include <map>
+
+#include "compare.hpp"
+#include "random_map.hpp"
+
+namespace {
+
+class Test {
+  public:
+    explicit Test(uint32_t seed) : maps_(seed) {}
+    uint32_t below(size_t n) { return maps_.below(n); }
+
+    // what is wrong with a new map, or null: with an allowance that is never spent, with just enough, with very much, and with less
+    const char *wrong(uint32_t places)
+    {
+        map_ = maps_.map(static_cast<Maps::Kind>(below(Maps::kinds)), places);
+        if (!call(236 * places))
+            return "not as by hand";
+        if (!as_boost())
+            return "not as Boost says";
+        const plain::Answer whole = comparison_.answer;
+        for (uint32_t enough : {whole.expansions, 0xffffffffu})
+            if (!call(enough) || comparison_.answer.numbers() != whole.numbers())
+                return "another answer with another allowance";
+        for (uint32_t less : {whole.expansions - 1, below(whole.expansions + 1)})
+            if (less < whole.expansions && (!call(less) || comparison_.answer.number != 16 || comparison_.answer.expansions != less))
+                return "not as it should be with less allowance";
+        return nullptr;
+    }
+
+    // prints how often each number came; whether each came with each kind
+    bool report() const
+    {
+        bool all = true;
+        for (const char *name : Maps::names) {
+            std::printf("maps: %-18s", name);
+            for (uint32_t number : {0u, 16u, 17u}) {
+                auto count = counts_.find({name, number});
+                all = all && count != counts_.end();
+                std::printf(" %6u calls answer %2u", count == counts_.end() ? 0 : count->second, number);
+            }
+            std::printf("\n");
+        }
+        return all;
+    }
+
+    const Map &map() const { return map_; }
+
+  private:
+    bool call(uint32_t allowance)
+    {
+        map_.allowance = allowance;
+        std::vector<uint8_t> input = input_of(map_);
+        size_t words = R3_WORDS_OF(map_.places, map_.arcs.size()), bytes = R3_BYTES_OF(map_.places);
+        if (below(3) == 0)
+            words += below(Comparison::spare + 1);
+        if (below(3) == 0)
+            bytes += below(Comparison::spare + 1);
+        bool same = comparison_.same(input.data(), input.size(), words, bytes, 9);
+        counts_[{map_.name, comparison_.answer.number}]++;
+        return same;
+    }
+
+    bool as_boost() const
+    {
+        const plain::Answer &a = comparison_.answer;
+        std::vector<long> far = least_costs(map_);
+        long cheapest = far[map_.start];
+        if (cheapest == unreached)
+            return a.number == 17;
+        bool overstates = false; // then the route may be dearer
+        for (uint32_t v = 0; v < map_.places; v++)
+            overstates = overstates || (map_.estimate[v] != plain::none && map_.estimate[v] > far[v]);
+        return a.number == 0 && (overstates ? a.cost >= cheapest : a.cost == cheapest) && is_route();
+    }
+
+    // the sheet's places lead from the start to a goal along arcs whose least costs sum to the cost
+    bool is_route() const
+    {
+        const uint8_t *sheet = comparison_.written;
+        uint32_t at = plain::u16(sheet + 10), cost = 0;
+        if (at != map_.start)
+            return false;
+        for (uint32_t i = 12; i < comparison_.answer.sheet_bytes; i += 2) {
+            uint32_t next = plain::u16(sheet + i), least = plain::none;
+            for (auto [from, to, c] : map_.arcs)
+                if (from == at && to == next)
+                    least = std::min(least, c);
+            if (least == plain::none)
+                return false;
+            cost += least;
+            at = next;
+        }
+        return cost == comparison_.answer.cost && std::binary_search(map_.goals.begin(), map_.goals.end(), at);
+    }
+
+    Maps maps_;
+    Map map_;
+    Comparison comparison_;
+    std::map<std::pair<std::string, uint32_t>, uint32_t> counts_;
+};
+
+} // namespace
+
+int main(int count, char **words)
+{
+    uint32_t seed = count > 1 ? static_cast<uint32_t>(std::stoul(words[1])) : std::random_device()();
+    std::printf("maps: seed %u\n", seed);
+    std::fflush(stdout);
+    Test test(seed);
+    for (uint32_t turn = 0; turn < 20000; turn++) {
+        uint32_t most = turn % 20 == 0 ? 4096 : turn % 4 == 0 ? 400 : 20;
+        if (const char *what = test.wrong(turn % 200 == 0 ? most : 1 + test.below(most))) {
+            const Map &m = test.map();
+            std::printf("maps: seed %u, map %u is wrong: %s\n", seed, turn, what);
+            std::printf("maps: %s, %u places, %zu arcs, allowance %u\n", m.name, m.places, m.arcs.size(), m.allowance);
+            return 1;
+        }
+    }
+    return !test.report();
+}

@@ -1,0 +1,84 @@
+// A mutator that knows records, for the fuzzer: most changes of single bytes break an input's framing, or leave an arc without its place.
+#pragma once
+#include <random>
+#include <vector>
+
+#include "plain.hpp"
+
+extern "C" size_t LLVMFuzzerMutate(uint8_t *data, size_t size, size_t most);
+
+class Mutator {
+  public:
+    Mutator(const uint8_t *input, size_t length, unsigned seed) : chance_(seed)
+    {
+        for (size_t at = 0; at < length; at += records_.back().size()) { // what is left where the framing breaks is the last one
+            size_t left = length - at, whole = left < 4 ? left : std::min<size_t>(left, 4 + plain::u16(input + at));
+            records_.emplace_back(input + at, input + at + whole);
+        }
+    }
+    uint32_t below(size_t n) { return static_cast<uint32_t>(chance_() % n); }
+    bool empty() const { return records_.empty(); }
+
+    void mutate()
+    {
+        auto i = records_.begin() + middle(), j = records_.begin() + middle();
+        uint32_t way = below(16);
+        if (way < 2)
+            std::swap(*i, *j);
+        else if (way < 4)
+            records_.erase(i);
+        else if (way < 8)
+            change(*records_.insert(i, Record(*j))); // one more arc or estimate, like another
+        else if (way < 9)
+            change(records_.front());
+        else if (way < 11)
+            change(records_.back());
+        else
+            change(*i);
+    }
+
+    // mostly with the number of arcs in the head
+    size_t write(uint8_t *out, size_t most)
+    {
+        uint32_t arcs = 0;
+        for (const Record &r : records_)
+            arcs += r.size() == 10 && r[2] == 2;
+        if (!empty() && records_[0].size() == 8 && below(32) != 0)
+            plain::put16(&records_[0][6], arcs);
+        size_t length = 0;
+        for (const Record &r : records_)
+            if (length + r.size() <= most) {
+                std::copy(r.begin(), r.end(), out + length);
+                length += r.size();
+            }
+        return length;
+    }
+
+  private:
+    using Record = std::vector<uint8_t>;
+
+    // mostly neither the head nor the job
+    long middle() { return records_.size() > 2 && below(32) != 0 ? 1 + below(records_.size() - 2) : below(records_.size()); }
+
+    // gives a field, or half of a longer one, another number
+    void change(Record &r)
+    {
+        if (r.size() < 6)
+            return;
+        uint8_t *field = &r[4 + below(r.size() / 2 - 2) * 2];
+        uint32_t places = records_[0].size() >= 6 ? plain::u16(&records_[0][4]) : 0;
+        switch (below(16)) {
+        case 0:
+            LLVMFuzzerMutate(field, 2, 2);
+            break;
+        case 1:
+            r[2] ^= 1; // an arc to an estimate and back
+            break;
+        default:
+            plain::put16(field, below(2) == 0 ? below(places + 1) : plain::u16(field) + below(9) - 4);
+        }
+    }
+
+    std::minstd_rand chance_;
+    std::vector<Record> records_;
+};

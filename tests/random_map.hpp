@@ -1,0 +1,74 @@
+// Random maps, with estimates made from the least costs to a goal that the Boost Graph Library gives.
+#pragma once
+#include <numeric>
+#include <random>
+
+#include "least.hpp"
+
+class Maps {
+  public:
+    enum Kind { none, exact, part, gaps, overstating, kinds };
+    static constexpr const char *names[kinds] = {"no estimates", "true least costs", "a part of them", "gaps", "overstating"};
+
+    explicit Maps(uint32_t seed) : chance_(seed) {}
+    uint32_t below(size_t n) { return static_cast<uint32_t>(chance_() % n); }
+
+    Map map(Kind kind, uint32_t places)
+    {
+        const uint32_t dearest[] = {1, 2, 9, 300, 65535};
+        Map m;
+        m.name = names[kind];
+        m.places = places;
+        m.start = below(places);
+        add_goals(m, below(2) == 0 ? 1 : 1 + below(std::min(64u, 1 + places / 4)));
+        uint32_t most = std::min(4 * places + 4, 16384u), fewer = below(most + 1), dear = dearest[below(5)];
+        add_arcs(m, most - fewer / (1 + below(4)), dear);
+        add_estimates(m, kind, dear);
+        return m;
+    }
+
+  private:
+    void add_goals(Map &m, uint32_t count)
+    {
+        std::vector<uint32_t> all(m.places);
+        std::iota(all.begin(), all.end(), 0);
+        std::sample(all.begin(), all.end(), std::back_inserter(m.goals), count, chance_); // keeps their order
+    }
+
+    void add_arcs(Map &m, size_t count, uint32_t dear)
+    {
+        uint32_t reach = below(2) == 0 ? m.places : 4; // a small reach makes long routes
+        for (size_t i = 0; i < count; i++) {
+            uint32_t from = below(m.places), way = below(16);
+            if (way == 0 && i != 0)
+                m.arcs.push_back(m.arcs.back()); // a parallel arc
+            else
+                m.arcs.push_back({from, way == 1 ? from : (from + 1 + below(reach)) % m.places, 0});
+            m.arcs.back().cost = 1 + below(dear);
+        }
+        auto to_goal = [&](const Arc &a) { return std::binary_search(m.goals.begin(), m.goals.end(), a.to); };
+        if (below(8) == 0) // no goal can be reached, unless it is the start
+            m.arcs.erase(std::remove_if(m.arcs.begin(), m.arcs.end(), to_goal), m.arcs.end());
+    }
+
+    void add_estimates(Map &m, Kind kind, uint32_t dear)
+    {
+        constexpr uint32_t largest = 268435455;
+        std::vector<long> far = least_costs(m);
+        uint32_t per_cent = below(101), lost = below(2) == 0 ? largest : below(1000); // where no goal can be reached, none overstates
+        for (uint32_t v = 0; v < m.places; v++) {
+            uint32_t least = far[v] == unreached ? lost : static_cast<uint32_t>(far[v]), estimate = 0;
+            if (kind == exact)
+                estimate = least;
+            else if (kind == part)
+                estimate = static_cast<uint32_t>(static_cast<uint64_t>(least) * per_cent / 100);
+            else if (kind == gaps && below(2) == 0)
+                estimate = below(least + 1);
+            else if (kind == overstating && far[v] != 0)
+                estimate = below(8) == 0 ? below(largest + 1) : std::min(largest, (v % 2) * least + below(3 * dear));
+            m.estimate.push_back(estimate == 0 && below(2) == 0 ? plain::none : estimate); // 0 with a record and without
+        }
+    }
+
+    std::mt19937 chance_;
+};
