@@ -1,10 +1,15 @@
 """Document 01's "Runs by hand", with the paper's own lines: what tests/cases.py and tests/program.py take them from."""
 from collections import namedtuple
 
-from reference import ESTIMATE, arc, estimate, head, job
+from reference import ESTIMATE, arc, estimate, head, job, u16
 
-# line, places: as program `route` prints them; sheet: in hex; short: how many words the work area is short. None where the paper says nothing.
+# line, places: what program `route` prints; sheet: in hex; None where the paper says nothing. short: how many words of the work area are missing.
 Run = namedtuple('Run', 'data line places sheet short', defaults=(None, None, None, 0))
+
+
+def lines(answer, sheet):
+    """the line of numbers and the line of places that program `route` prints, the second empty where there is no route"""
+    return ' '.join(map(str, answer[:6])), ' '.join(str(u16(sheet, i)) for i in range(10, len(sheet), 2))
 
 
 def runs():

@@ -15,7 +15,7 @@ import struct
 import subprocess
 import sys
 
-from by_hand import runs
+from by_hand import lines, runs
 from edges import ends_of_fields, ends_of_records, refused
 from inputs import Graph, any_estimates, damaged, records_before_job, some_graph, some_map
 from reference import ARCS, COST, ESTIMATE, GOALS, PLACES, arc, estimate, head, job, route, u16
@@ -41,9 +41,9 @@ def documented():
     for run in runs():
         words, room = needs(run.data)
         answer, sheet = route(run.data, words - run.short, room)
-        line, places = ' '.join(map(str, answer[:6])), ' '.join(str(u16(sheet, i)) for i in range(10, len(sheet), 2))
-        if any(said not in (None, given) for said, given in ((run.line, line), (run.places, places), (run.sheet, sheet.hex(' ').upper()))):
-            sys.exit(f'not as document 01 has it: {run}: {line}, {places}, {sheet.hex()}')
+        given = *lines(answer, sheet), sheet.hex(' ').upper()
+        if any(said not in (None, other) for said, other in zip((run.line, run.places, run.sheet), given)):
+            sys.exit(f'not as document 01 has it: {run}, {given}')
         yield case(DOCUMENT, run.data, words - run.short, room)
 
 
@@ -108,7 +108,7 @@ def some_case(rnd, graph, far):
     """a random map, most often with a route, and with an allowance around what its search needs, or far from it"""
     estimates = some_estimates(rnd, graph, far)
     group, records = group_of(graph, estimates, far), b''.join(records_before_job(rnd, graph, estimates))
-    start = rnd.choice([v for v in range(graph.places) if far[v] or rnd.random() < 0.1] or [0])
+    start = rnd.choice([v for v in range(graph.places) if far[v] or rnd.random() < 0.3] or [0])
     enough = 236 * graph.places
     total = agree(records + job(start, enough, graph.goals), far[start], group == OVERSTATING)[4]
     allowance = rnd.choice([enough, enough, 2 ** 32 - 1, total, total, max(total - 1, 0), rnd.randint(0, total), 0])
@@ -123,7 +123,7 @@ def some_damage(rnd):
 
 def all_cases(program):
     rnd = random.Random(1)
-    sizes = [200] * 4 + [int(3 * 14 ** rnd.random()) for _ in range(496)]
+    sizes = [200] * 4 + [rnd.randint(2, rnd.randint(2, 60)) for _ in range(496)]
     whole, *graphs = least(program, [whole_graph(rnd), *(some_graph(rnd, places) for places in sizes)])
     yield from documented()
     yield from refusals()

@@ -7,13 +7,13 @@ Graph = namedtuple('Graph', 'places arcs goals')
 
 
 def some_graph(rnd, places):
-    """arcs to anywhere or to near numbers, so that routes are short or long, and more of them where costs are low, so that several routes are
-    cheapest; parallel arcs, loops and goals out of reach come up by themselves"""
-    dear, near = rnd.choice([1, 2, 9, 300, COST]), rnd.choice([2, 5, places])
+    """arcs to anywhere, or along rows and columns, where several routes are cheapest; parallel arcs, loops and goals out of reach come up by
+    themselves"""
+    steps, dear = rnd.choice([range(places), (1, 2), (1, 5), (1, -1, 5, -5)]), rnd.choice([1, 1, 2, 9, COST])
     arcs = []
-    for _ in range(rnd.randint(places, (4 if dear <= 2 else 2) * places)):
+    for _ in range(rnd.randint(places, 3 * places)):
         u = rnd.randrange(places)
-        arcs.append((u, (u + rnd.randint(-near // 2, near)) % places, rnd.randint(1, dear)))
+        arcs.append((u, (u + rnd.choice(steps)) % places, rnd.randint(1, dear)))
     goals = rnd.sample(range(places), min(rnd.choice([1, 1, 2, 5, GOALS]), (places + 2) // 3))
     return Graph(places, arcs, sorted(goals))
 

@@ -5,9 +5,9 @@ import subprocess
 import sys
 import time
 
-from by_hand import runs
+from by_hand import lines, runs
 from inputs import damaged, some_map
-from reference import arc, head, job, route, u16
+from reference import arc, head, job, route
 
 WORK, SHEET, INPUT = 16384, 8202, 65536
 
@@ -26,19 +26,21 @@ def run(program, pieces):
     return out if child.returncode == 0 else f'exit {child.returncode}'
 
 
+def text(line, places):
+    return line + '\n' + (places + '\n' if places else '')
+
+
 def printed(data):
     if len(data) > INPUT:
         return 'too long\n'
-    answer, sheet = route(data, WORK, SHEET)
-    places = ' '.join(str(u16(sheet, i)) for i in range(10, len(sheet), 2))
-    return ' '.join(map(str, answer[:6])) + '\n' + (places + '\n' if answer[0] == 0 else '')
+    return text(*lines(*route(data, WORK, SHEET)))
 
 
 def by_hand():
     """document 01's runs with its own lines, and what its limits for the program say"""
     for run in runs():
         if run.line is not None and run.short == 0:
-            yield run.data, run.line + '\n' + (run.places + '\n' if run.places else '')
+            yield run.data, text(run.line, run.places)
     yield head(1024, 0) + job(0, 0, [0]), '0 0 0 0 0 1\n0\n'  # takes all 16,384 words
     yield head(1024, 1) + arc(0, 0, 1) + job(0, 0, [0]), '14 0 0 0 0 0\n'
     yield bytes(INPUT + 1), 'too long\n'

@@ -185,13 +185,13 @@ fn call(case: Case, input: &[u8], work: &mut [u32], sheet: &mut [u8]) -> Answer
 }
 
 fn same_answer(a: Answer, b: Answer) -> bool {
-    a.number == b.number
-        && a.cost == b.cost
-        && a.limit == b.limit
-        && a.floor == b.floor
-        && a.expansions == b.expansions
-        && a.queries == b.queries
-        && a.sheet_bytes == b.sheet_bytes
+    (a.number == b.number)
+        & (a.cost == b.cost)
+        & (a.limit == b.limit)
+        & (a.floor == b.floor)
+        & (a.expansions == b.expansions)
+        & (a.queries == b.queries)
+        & (a.sheet_bytes == b.sheet_bytes)
 }
 
 // The areas are compared whole, also beyond what is lent.

@@ -23,7 +23,7 @@ use Rattle.model.specs.Input.{arcKind, estimateKind, arcsOf, Estimate, estimate
 use Rattle.model.specs.Lists.{any}
 use Rattle.model.specs.Problem.{Arc}
 use Rattle.model.specs.Refusals.{misfits, wrongLength, outsideMap, freeArc, largeEstimate, twoEstimates}
-use Rattle.model.proofs.Lists.{or-false}
+use Rattle.model.proofs.Lists.{neither}
 
 module _ (input : List ℕ) (n : ℕ) (r : declared.Record.Record) (f : Fitting input n r) where
   arc : r .kind ≡ arcKind → ArcRead input r
@@ -75,7 +75,7 @@ module _ (input : List ℕ) (n : ℕ) (marks₀ : List ℕ) (ready : Ready input
         free = ap (λ (q : Noted). q .fields .free) all ∙ free-noted n start rs;
         large = ap (λ (q : Noted). q .fields .large) all ∙ large-noted n start rs;
         twice = λ clear.
-            let inside = or-false (any (λ (a : Arc). leb n (a .from) || leb n (a .to)) (arcsOf rs)) _ (sym outside ∙ clear) .1 in
+            let inside = neither (any (λ (a : Arc). leb n (a .from) || leb n (a .to)) (arcsOf rs)) _ (sym outside ∙ clear) .1 in
             ap (λ (q : Noted). q .fields .twice) all
             ∙ twice-noted n start rs
             ∙ twice-repeats n es marks₀ room (ready .clear) (any-map (leb n) (λ (e : Estimate). e .place) es ∙ inside);
@@ -91,7 +91,7 @@ module _ (input : List ℕ) (n : ℕ) (marks₀ : List ℕ) (at : ℕ) (p : Note
   unfolding push wrongLength any
   first-fits =
       let is = frame-whole input at (w .inside) r found in
-      or-false _ _ (sym (ap (λ (f : Framed). wrongLength (f .records)) (is .framed)) ∙ w .fit)
+      neither _ _ (sym (ap (λ (f : Framed). wrongLength (f .records)) (is .framed)) ∙ w .fit)
 
   pub walk-fitting : n ≤ 4096 → Fitting input n r
   walk-fitting few = record { fits = first-fits .0; few = few }

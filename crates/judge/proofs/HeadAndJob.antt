@@ -22,7 +22,7 @@ use Rattle.model.specs.Framing.{Record, Framed, stop, push, frame}
 use Rattle.model.specs.Input.{headKind, jobKind, firstBody, placesOf, arcCountOf}
 use Rattle.model.specs.Lists.{any}
 use Rattle.model.specs.Refusals.{countOf, misfits, wrongLength, beginsWith, endsWith}
-use Rattle.model.proofs.Lists.{or-false}
+use Rattle.model.proofs.Lists.{neither}
 
 -- N and M stand at bytes 4 and 6
 pub record HeadFirst (input : List ℕ) : Type 0 where
@@ -48,7 +48,7 @@ module _ (input : List ℕ) (fit : wrongLength (frame input .records) ≡ false)
   unfolding wrongLength any beginsWith push placesOf arcCountOf
   whole r rest four forward ends framed =
       let is-head : eqb (r .kind) headKind ≡ true = rw framed at head in
-      let fits : misfits (recordIn input r) ≡ false = or-false _ _ (rw framed at fit) .0 in
+      let fits : misfits (recordIn input r) ≡ false = neither _ _ (rw framed at fit) .0 in
       let len : r .end - r .start ≡ 4 = eqb-true _ _ (not-false _ (head-misfits input r forward ends (eqb-true _ _ is-head) ∙ fits)) in
       let body : firstBody headKind (frame input .records) ≡ recordIn input r .body = rw framed (first-is headKind (recordIn input r) (rest .records) is-head) in
       let field = u16-part input (r .start) (r .end - r .start) in
@@ -97,11 +97,11 @@ pub record JobBody (b : List ℕ) : Type 0 where
 
 job-body : (r : Record) → eqb (r .kind) jobKind ≡ true → misfits r ≡ false → JobBody (r .body)
 job-body r e fits =
-    let both = or-false (ltb (length (r .body)) 8) _ (sym (job-fits r (eqb-true _ _ e)) ∙ fits) in
-    record { long = ltb-false _ _ (both .0); exact = eqb-true _ _ (not-false _ (both .1)) }
+    let parts = neither (ltb (length (r .body)) 8) _ (sym (job-fits r (eqb-true _ _ e)) ∙ fits) in
+    record { long = ltb-false _ _ (parts .0); exact = eqb-true _ _ (not-false _ (parts .1)) }
 
 pub last-fits : (rs : List Record) → wrongLength rs ≡ false → endsWith jobKind rs ≡ true → JobBody (lastBody rs)
 unfolding wrongLength any endsWith lastBody
 last-fits [] fit e = absurd (true≢false (sym e))
-last-fits (r ∷ []) fit e = job-body r e (or-false (misfits r) false fit .0)
-last-fits (r ∷ s ∷ rs) fit e = last-fits (s ∷ rs) (or-false (misfits r) (wrongLength (s ∷ rs)) fit .1) e
+last-fits (r ∷ []) fit e = job-body r e (neither (misfits r) false fit .0)
+last-fits (r ∷ s ∷ rs) fit e = last-fits (s ∷ rs) (neither (misfits r) (wrongLength (s ∷ rs)) fit .1) e

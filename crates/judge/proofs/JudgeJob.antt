@@ -26,7 +26,7 @@ use Rattle.model.specs.Input.{startOf, allowanceOf, goalsOf, estimatesOf, looku
 use Rattle.model.specs.Lists.{any}
 use Rattle.model.specs.Refusals.{jobOutsideMap, wrongGoals, goalEstimate, workWords, shortWork, shortSheet, refusal}
 use Rattle.model.proofs.Bytes.{u16s-length}
-use Rattle.model.proofs.Lists.{or-false, any-false}
+use Rattle.model.proofs.Lists.{neither, any-false}
 
 module _ (input : List ℕ) (map : Map) (at : ℕ) (marks : List ℕ) (j : OneJob input map at marks) where
   start-at : u16 input (at + 0) ≡ startOf (frame input .records)
@@ -65,7 +65,7 @@ module _ (input : List ℕ) (map : Map) (at : ℕ) (marks : List ℕ) (j : OneJo
       estimated-same : jobOutsideMap (frame input .records) ≡ false → g .estimated ≡ goalEstimate (frame input .records)
       unfolding goalEstimate
       estimated-same inside =
-          let below = or-false (leb (map .places) start) _ (outside-same ∙ inside) .1 in
+          let below = neither (leb (map .places) start) _ (outside-same ∙ inside) .1 in
           c .estimated
           ∙ any-same (estimatedAt (map .places) marks) aboveZero gs (λ v i.
           let h = leb-false _ _ (any-false (leb (map .places)) gs (sym (c .outside) ∙ below) v i) in

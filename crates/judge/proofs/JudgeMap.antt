@@ -24,7 +24,7 @@ use Rattle.model.specs.Framing.{frame}
 use Rattle.model.specs.Input.{jobKind, placesOf, arcCountOf}
 use Rattle.model.specs.Limits.{maxPlaces, maxArcs}
 use Rattle.model.specs.Refusals.{broken, unknownKind, wrongLength, endsWith, wrongHead, wrongSize, freeArc, largeEstimate, twoEstimates, wrongJob, refusal}
-use Rattle.model.proofs.Lists.{or-false}
+use Rattle.model.proofs.Lists.{neither}
 
 pub refused : (input : List ℕ) (words bytes n : ℕ) → refusal (frame input) words bytes ≡ n → n ≢ 0 → Judged input words bytes (Refused n)
 refused input words bytes n e h = record { number = sym e; some-number = λ m f. let same : n ≡ m = cc in omega (arith, h); states = λ j f. let z : _≡_ {A = ℕ} 0 1 = cc in absurd (omega arith) }
@@ -75,7 +75,7 @@ module _ (input : List ℕ) (s : Survey) (f : Formed input s) where
 
   pub head : HeadFirst input
   unfolding wrongHead
-  head = head-first input (none .third) (not-false _ (or-false _ _ (none .fourth) .0))
+  head = head-first input (none .third) (not-false _ (neither _ _ (none .fourth) .0))
 
   after-form : (words bytes : ℕ) → refusal (frame input) words bytes ≡ fromSize (frame input .records) words bytes
   after-form words bytes = refusal-groups (frame input) words bytes ∙ not-given _ _ (f .number)
@@ -93,13 +93,13 @@ module _ (input : List ℕ) (s : Survey) (f : Formed input s) where
     pub sized : sizeWrong (map .places) (map .arcs) (s .arcs) ≡ false → Sized input map
     sized e =
         let none-here = ap {B = ℕ} (λ (t : Bool). cond t 5 0) (sym size-same ∙ e) in
-        let least = or-false (ltb (map .places) 1 || ltb maxPlaces (map .places) || ltb maxArcs (map .arcs)) _ e .0 in
-        let upper = or-false (ltb (map .places) 1 || ltb maxPlaces (map .places)) _ least in
+        let least = neither (ltb (map .places) 1 || ltb maxPlaces (map .places) || ltb maxArcs (map .arcs)) _ e .0 in
+        let upper = neither (ltb (map .places) 1 || ltb maxPlaces (map .places)) _ least in
         record {
           fit = none .third;
           places = places ∙ head .places;
           arcs = arcs ∙ head .arcs;
-          few-places = ltb-false _ _ (or-false (ltb (map .places) 1) _ (upper .0) .1);
+          few-places = ltb-false _ _ (neither (ltb (map .places) 1) _ (upper .0) .1);
           few-arcs = ltb-false _ _ (upper .1);
           number = λ words bytes. after-form words bytes ∙ not-given _ _ none-here;
         }
@@ -148,9 +148,9 @@ module _ (input : List ℕ) (map : Map) (z : Sized input map) where
       pub one-job : s .broken ≡ false → (not (eqb (s .jobs) 1) || not (s .«job_last»)) ≡ false → OneJob input map (s .«last_at») marks
       unfolding wrongJob
       one-job clear e =
-          let both = or-false (not (eqb (s .jobs) 1)) _ e in
-          let jobs : s .jobs ≡ 1 = eqb-true _ _ (not-false _ (both .0)) in
-          let last : s .«job_last» ≡ true = not-false _ (both .1) in
+          let parts = neither (not (eqb (s .jobs) 1)) _ e in
+          let jobs : s .jobs ≡ 1 = eqb-true _ _ (not-false _ (parts .0)) in
+          let last : s .«job_last» ≡ true = not-false _ (parts .1) in
           let rs = frame input .records in
           let at = s .«last_at» in
           let ends : endsWith jobKind rs ≡ true = sym (v .job-last) ∙ last in

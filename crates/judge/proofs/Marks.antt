@@ -14,7 +14,7 @@ use Rattle.judge.proofs.Flags.{any-same, any-or}
 use Rattle.map.proofs.RecordKinds.{placesIn}
 use Rattle.model.specs.Input.{Estimate, lookup}
 use Rattle.model.specs.Lists.{any, member, repeats}
-use Rattle.model.proofs.Lists.{or-false, any-false}
+use Rattle.model.proofs.Lists.{neither, any-false}
 
 -- an estimate whose place the estimates before it have marked
 unfoldable pub twiceIn : ℕ → List ℕ → List Estimate → Bool
@@ -134,7 +134,7 @@ module _ (n : ℕ) where
   unfolding twiceIn any repeats
   twice-marked [] m room inside = refl
   twice-marked (e ∷ es) m room inside =
-      let rest = or-false (leb n (e .place)) _ inside .1 in
+      let rest = neither (leb n (e .place)) _ inside .1 in
       let ps = placesIn es in
       ap (λ (t : Bool). marked n m (e .place) || t)
       (twice-marked es (markedBy n m e) (rw (marked-length n m room e) room) rest

@@ -36,7 +36,7 @@ use Rattle.model.specs.Refusals.{
   refusal,
   Accepted,
 }
-use Rattle.model.proofs.Lists.{none-some, or-false, any-false, filterMap-member}
+use Rattle.model.proofs.Lists.{none-some, neither, any-false, filterMap-member}
 use Rattle.model.proofs.Bytes.{take-bytes, drop-bytes, u16-below}
 
 some-member : {A : Type 0} (xs : List A) → 1 ≤ length xs → (x : A) × List·Memᴰ x xs
@@ -73,9 +73,9 @@ no-row-holds : (rs : List Row) → any (λ (r : Row). eqb (r .number) 0) rs ≡ 
     → (i : ℕ) → getD (map (λ (r : Row). r .holds) rs) i false ≡ false
 unfolding any
 no-row-holds [] numbered e i = refl
-no-row-holds (r ∷ rs) numbered e zero = first-row-false r rs (eqb-false (r .number) 0 (or-false _ _ numbered .0)) e .0
+no-row-holds (r ∷ rs) numbered e zero = first-row-false r rs (eqb-false (r .number) 0 (neither _ _ numbered .0)) e .0
 no-row-holds (r ∷ rs) numbered e (suc i) =
-    let n = or-false (eqb (r .number) 0) _ numbered in
+    let n = neither (eqb (r .number) 0) _ numbered in
     no-row-holds rs (n .1) (first-row-false r rs (eqb-false (r .number) 0 (n .0)) e .1) i
 
 pub none-holds : (f : Framed) (words bytes : ℕ) → refusal f words bytes ≡ 0 → NoneHolds f words bytes
@@ -154,19 +154,19 @@ unfolding problemOf wrongSize outsideMap freeArc largeEstimate jobOutsideMap wro
 accepted-valid input words bytes B A =
     let p = problemOf (frame input .records) in
     let no = none-holds (frame input) words bytes A in
-    let size = or-false _ _ (or-false _ _ (or-false _ _ (no .no-5) .0) .0) in
-    let arc = any-false _ (p .arcs) (or-false _ _ (no .no-6) .0) in
-    let job = or-false (leb (p .places) (p .start)) _ (no .no-11) in
+    let size = neither _ _ (neither _ _ (neither _ _ (no .no-5) .0) .0) in
+    let arc = any-false _ (p .arcs) (neither _ _ (no .no-6) .0) in
+    let job = neither (leb (p .places) (p .start)) _ (no .no-11) in
     record {
       some-place = ltb-false _ _ (size .0);
       few-places = ltb-false _ _ (size .1);
-      arc-from = λ a i. leb-false _ _ (or-false _ _ (arc a i) .0);
-      arc-to = λ a i. leb-false _ _ (or-false (leb (p .places) (a .from)) _ (arc a i) .1);
+      arc-from = λ a i. leb-false _ _ (neither _ _ (arc a i) .0);
+      arc-to = λ a i. leb-false _ _ (neither (leb (p .places) (a .from)) _ (arc a i) .1);
       cost-above = λ a i. let h = eqb-false (a .cost) 0 (any-false _ _ (no .no-7) a i) in omega arith;
       cost-below = cost-below input B;
       estimate-below = lookup-below _ maxEstimate λ e i. ltb-false _ _ (any-false _ _ (no .no-8) e i);
       start-below = leb-false _ _ (job .0);
-      some-goal = some-member (p .goals) (ltb-false _ _ (or-false _ _ (or-false _ _ (no .no-12) .0) .0));
+      some-goal = some-member (p .goals) (ltb-false _ _ (neither _ _ (neither _ _ (no .no-12) .0) .0));
       goal-below = λ g i. leb-false _ _ (any-false _ _ (job .1) g i);
       goal-estimate = λ g i. eqb-true _ _ (not-false _ (any-false _ _ (no .no-13) g i));
       grows = omega arith;

@@ -8,14 +8,14 @@ use lib.Dec.{eqb}
 use lib.ListN.{length, getD}
 use borrow.Author.Tests.{eqb-false, ne-eqb}
 use Rattle.model.specs.Lists.{any, member, repeats}
-use Rattle.model.proofs.Lists.{or-false}
+use Rattle.model.proofs.Lists.{neither}
 
 -- a test passes no element exactly when it passes the element at no index
 pub any-nowhere : (f : ℕ → Bool) (xs : List ℕ) → any f xs ≡ false → (i : ℕ) → i < length xs → f (getD xs i 0) ≡ false
 unfolding any
 any-nowhere f [] e i l = absurd (omega arith)
-any-nowhere f (x ∷ xs) e zero l = or-false (f x) (any f xs) e .0
-any-nowhere f (x ∷ xs) e (suc i) l = any-nowhere f xs (or-false (f x) (any f xs) e .1) i (omega arith)
+any-nowhere f (x ∷ xs) e zero l = neither (f x) (any f xs) e .0
+any-nowhere f (x ∷ xs) e (suc i) l = any-nowhere f xs (neither (f x) (any f xs) e .1) i (omega arith)
 
 pub nowhere-any : (f : ℕ → Bool) (xs : List ℕ) → ((i : ℕ) → i < length xs → f (getD xs i 0) ≡ false) → any f xs ≡ false
 unfolding any
@@ -31,9 +31,9 @@ unfolding repeats member
 repeats-different [] e i j l m q = omega arith
 repeats-different (x ∷ xs) e i zero l m q = omega arith
 repeats-different (x ∷ xs) e zero (suc j) l m q =
-    eqb-false x (getD xs j 0) (any-nowhere (eqb x) xs (or-false (member x xs) (repeats xs) e .0) j (omega arith)) q
+    eqb-false x (getD xs j 0) (any-nowhere (eqb x) xs (neither (member x xs) (repeats xs) e .0) j (omega arith)) q
 repeats-different (x ∷ xs) e (suc i) (suc j) l m q =
-    repeats-different xs (or-false (member x xs) (repeats xs) e .1) i j (omega arith) (omega arith) q
+    repeats-different xs (neither (member x xs) (repeats xs) e .1) i j (omega arith) (omega arith) q
 
 pub different-repeats : (xs : List ℕ) → Different xs → repeats xs ≡ false
 unfolding repeats member

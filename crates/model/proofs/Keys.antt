@@ -16,7 +16,7 @@ use Rattle.model.specs.Problem.{Problem, IsGoal}
 use Rattle.model.specs.Costs.{Table, costAt}
 use Rattle.model.specs.Query.{Key, precedes, keyOf, keysFrom, within, firstGoal, lengthTo}
 use Rattle.model.specs.Terms.{IsWithin}
-use Rattle.model.proofs.Lists.{none-some, or-false, and-true, filter-member, filter-length, leastBy-none, leastBy-member, leastBy-least}
+use Rattle.model.proofs.Lists.{none-some, neither, both, filter-member, filter-length, leastBy-none, leastBy-member, leastBy-least}
 use Rattle.model.proofs.Lists.{member-true, member-length, consIf-member, consIf-length}
 
 -- g's key comes first of those of the goals: by cost, then by number
@@ -37,7 +37,7 @@ pub record NotBefore (j k : Key) : Type 0 where
 pub precedes-false : (j k : Key) → precedes j k ≡ false → NotBefore j k
 unfolding precedes
 precedes-false j k e =
-    let parts = or-false (ltb (j .cost) (k .cost)) (eqb (j .cost) (k .cost) && ltb (j .place) (k .place)) e in
+    let parts = neither (ltb (j .cost) (k .cost)) (eqb (j .cost) (k .cost) && ltb (j .place) (k .place)) e in
     record { costs = ltb-false _ _ (parts .0); places = λ p. ltb-false _ _ (rw (eq-eqb (j .cost) (k .cost) p) at (parts .1)) }
 
 pub not-precedes : (j k : Key) → NotBefore j k → precedes j k ≡ false
@@ -58,7 +58,7 @@ precedes-true j k e = go (ltb (j .cost) (k .cost)) refl e
         let less = ltb-true (j .cost) (k .cost) q in
         record { costs = omega arith; places = λ p. omega arith }
     go false q h =
-        let tie = and-true (eqb (j .cost) (k .cost)) (ltb (j .place) (k .place)) h in
+        let tie = both (eqb (j .cost) (k .cost)) (ltb (j .place) (k .place)) h in
         let same = eqb-true (j .cost) (k .cost) (tie .0) in
         let lower = ltb-true (j .place) (k .place) (tie .1) in
         record { costs = omega arith; places = λ p. omega arith }

@@ -14,13 +14,13 @@ use Rattle.model.specs.Lists.{any, filter, consIf, filterMap, lesser, le
 pub none-some : {A B : Type 0} {x : A} → _≡_ {A = Option A} none (some x) → B
 none-some e = absurd (Option·none-ne-some _ e)
 
-pub or-false : (a b : Bool) → a || b ≡ false → (a ≡ false) × (b ≡ false)
-or-false true b e = absurd (true≢false e)
-or-false false b e = (refl, e)
+pub neither : (a b : Bool) → a || b ≡ false → (a ≡ false) × (b ≡ false)
+neither true b e = absurd (true≢false e)
+neither false b e = (refl, e)
 
-pub and-true : (a b : Bool) → a && b ≡ true → (a ≡ true) × (b ≡ true)
-and-true true b e = (refl, e)
-and-true false b e = absurd (false≢true e)
+pub both : (a b : Bool) → a && b ≡ true → (a ≡ true) × (b ≡ true)
+both true b e = (refl, e)
+both false b e = absurd (false≢true e)
 
 pub member-length : {A : Type 0} {x : A} {xs : List A} → List·Memᴰ x xs → 1 ≤ length xs
 member-length (List·Memᴰ·head e) = omega arith
@@ -60,8 +60,8 @@ module _ {A : Type 0} (f : A → Bool) where
   pub any-false : (xs : List A) → any f xs ≡ false → (x : A) → List·Memᴰ x xs → f x ≡ false
   unfolding any
   any-false [] e x i = absurd (List·Memᴰ·not-nil i)
-  any-false (y ∷ ys) e x (List·Memᴰ·head p) = rw p (or-false (f y) (any f ys) e .0)
-  any-false (y ∷ ys) e x (List·Memᴰ·tail i) = any-false ys (or-false (f y) (any f ys) e .1) x i
+  any-false (y ∷ ys) e x (List·Memᴰ·head p) = rw p (neither (f y) (any f ys) e .0)
+  any-false (y ∷ ys) e x (List·Memᴰ·tail i) = any-false ys (neither (f y) (any f ys) e .1) x i
 
   pub any-true : (xs : List A) → any f xs ≡ true → (x : A) × List·Memᴰ x xs × (f x ≡ true)
   unfolding any

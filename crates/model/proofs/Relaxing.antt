@@ -18,7 +18,7 @@ use Rattle.model.specs.Paths.{Walk, stay, on, PathTo, Within, PathWithin
 use Rattle.model.specs.Costs.{Table, costAt, lowers, storeIf, arrive, relaxFrom, relax, relaxAll, relaxUpTo, startTable, table}
 use Rattle.model.specs.Costs.{sameEntry, sameTable}
 use Rattle.model.specs.Terms.{AtMost}
-use Rattle.model.proofs.Lists.{none-some, and-true}
+use Rattle.model.proofs.Lists.{none-some, both}
 
 -- an entry after a store is the stored one, or was there before
 set-cases : (t : Table) (v w n d : ℕ) → costAt (set t v (some n)) w ≡ some d → ((w ≡ v) × (n ≡ d)) ⊎ (costAt t w ≡ some d)
@@ -62,8 +62,8 @@ sameTable-true [] [] h = refl
 sameTable-true [] (e ∷ u) h = absurd (false≢true h)
 sameTable-true (d ∷ t) [] h = absurd (false≢true h)
 sameTable-true (d ∷ t) (e ∷ u) h =
-    let both = and-true (sameEntry d e) (sameTable t u) h in
-    cc (sameEntry-true d e (both .0), sameTable-true t u (both .1))
+    let parts = both (sameEntry d e) (sameTable t u) h in
+    cc (sameEntry-true d e (parts .0), sameTable-true t u (parts .1))
 
 -- every arc relaxed, k times over
 pub relaxTimes : ℕ → Problem → ℕ → Table → Table
@@ -115,7 +115,7 @@ module _ (p : Problem) (C : ℕ) where
 
   arrive-sound : (t : Table) (v n : ℕ) → (n + p .estimate v ≤ C → PathWithin p C v n) → Sound t → Sound (arrive p C t v n)
   unfolding arrive
-  arrive-sound t v n r s = storeIf-sound _ t v n (λ b. r (leb-true _ C (and-true (leb (n + p .estimate v) C) _ b .0))) s
+  arrive-sound t v n r s = storeIf-sound _ t v n (λ b. r (leb-true _ C (both (leb (n + p .estimate v) C) _ b .0))) s
 
   relax-sound : (t : Table) (a : Arc) → IsArc p a → Sound t → Sound (relax p C t a)
   unfolding relax relaxFrom Within
@@ -184,7 +184,7 @@ storeIf-hits t v n h = go (costAt t v) refl
 module _ (p : Problem) (C : ℕ) where
   arrive-keeps : (t : Table) (v n w d : ℕ) → AtMost (costAt t w) d → AtMost (costAt (arrive p C t v n) w) d
   unfolding arrive
-  arrive-keeps t v n w d m = storeIf-keeps _ t v n (λ b. and-true (leb (n + p .estimate v) C) _ b .1) w d m
+  arrive-keeps t v n w d m = storeIf-keeps _ t v n (λ b. both (leb (n + p .estimate v) C) _ b .1) w d m
 
   arrive-length : (t : Table) (v n : ℕ) → length (arrive p C t v n) ≡ length t
   unfolding arrive

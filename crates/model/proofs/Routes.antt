@@ -16,7 +16,7 @@ use Rattle.model.specs.Costs.{Table, costAt, table}
 use Rattle.model.specs.Query.{Key, firstGoal}
 use Rattle.model.specs.Routes.{parentBy, parent, extend, routeUpTo, routeTo}
 use Rattle.model.specs.Terms.{AtMost}
-use Rattle.model.proofs.Lists.{none-some, and-true, filterMap-member, least-none, least-some}
+use Rattle.model.proofs.Lists.{none-some, both, filterMap-member, least-none, least-some}
 use Rattle.model.proofs.LeastCosts.{Via, start-below, end-below, entry-path, path-entry, arc-entry, entry-via}
 use Rattle.model.proofs.Keys.{IsFirstGoal, first-goal-some}
 
@@ -134,9 +134,9 @@ parentBy-some a v none e u h = none-some h
 parentBy-some a v (some d) none u h = none-some h
 parentBy-some a v (some d) (some e) u h =
     let passed : (eqb (a .to) v && eqb (d + a .cost) e ≡ true) × (a .from ≡ u) = cond-some _ (a .from) u h in
-    let both : (eqb (a .to) v ≡ true) × (eqb (d + a .cost) e ≡ true) = and-true _ _ (passed .0) in
-    let sum : d + a .cost ≡ e = eqb-true (d + a .cost) e (both .1) in
-    (d, refl, cc, eqb-true (a .to) v (both .0), passed .1)
+    let parts : (eqb (a .to) v ≡ true) × (eqb (d + a .cost) e ≡ true) = both _ _ (passed .0) in
+    let sum : d + a .cost ≡ e = eqb-true (d + a .cost) e (parts .1) in
+    (d, refl, cc, eqb-true (a .to) v (parts .0), passed .1)
 
 -- the place, if any, from which the arc a ends a least path to v
 abbrev candidate : Problem → ℕ → ℕ → Arc → Option ℕ

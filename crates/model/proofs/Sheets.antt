@@ -29,7 +29,7 @@ use Rattle.model.specs.Sheets.{
   readFramed,
   readSheet,
 }
-use Rattle.model.proofs.Lists.{or-false, and-true}
+use Rattle.model.proofs.Lists.{neither, both}
 use Rattle.model.proofs.Indices.{Different, any-nowhere, nowhere-any, repeats-different, different-repeats}
 use Rattle.model.proofs.Bytes.{
   put16s-length,
@@ -57,11 +57,11 @@ unfolding impossible
 possible cost places e =
     let p : ℕ = length places in
     let f : Bool = any (leb maxPlaces) places in
-    let below = or-false (ltb p 1 || ltb maxPlaces p || f || repeats places || ltb cost (p - 1)) (ltb ((p - 1) * maxCost) cost) e in
-    let above = or-false (ltb p 1 || ltb maxPlaces p || f || repeats places) (ltb cost (p - 1)) (below .0) in
-    let once = or-false (ltb p 1 || ltb maxPlaces p || f) (repeats places) (above .0) in
-    let small = or-false (ltb p 1 || ltb maxPlaces p) f (once .0) in
-    let few = or-false (ltb p 1) (ltb maxPlaces p) (small .0) in
+    let below = neither (ltb p 1 || ltb maxPlaces p || f || repeats places || ltb cost (p - 1)) (ltb ((p - 1) * maxCost) cost) e in
+    let above = neither (ltb p 1 || ltb maxPlaces p || f || repeats places) (ltb cost (p - 1)) (below .0) in
+    let once = neither (ltb p 1 || ltb maxPlaces p || f) (repeats places) (above .0) in
+    let small = neither (ltb p 1 || ltb maxPlaces p) f (once .0) in
+    let few = neither (ltb p 1) (ltb maxPlaces p) (small .0) in
     record {
       some-place = ltb-false p 1 (few .0);
       few-places = ltb-false maxPlaces p (few .1);
@@ -213,13 +213,13 @@ module _ (b : List ℕ) where
       go : (t : Bool) → fitsRoute r ≡ t → (u : Bool) → fitsNoRoute r ≡ u
           → Outcome b (cond t (checked 0 (u32 x 0) (u16s (u16 x 4) x 6)) (cond u (checked 17 0 (u16 x 0 ∷ [])) (refusedRead 18)))
       go true f u g =
-          let both = and-true (eqb (r .kind) routeKind) (eqb (length x) (6 + 2 * u16 x 4)) f in
-          let framed = of-kind routeKind (eqb-true (r .kind) routeKind (both .0)) in
-          checked-outcome 0 (u32 x 0) (u16s (u16 x 4) x 6) (a-route x framed (eqb-true (length x) (6 + 2 * u16 x 4) (both .1)))
+          let parts = both (eqb (r .kind) routeKind) (eqb (length x) (6 + 2 * u16 x 4)) f in
+          let framed = of-kind routeKind (eqb-true (r .kind) routeKind (parts .0)) in
+          checked-outcome 0 (u32 x 0) (u16s (u16 x 4) x 6) (a-route x framed (eqb-true (length x) (6 + 2 * u16 x 4) (parts .1)))
       go false f true g =
-          let both = and-true (eqb (r .kind) noRouteKind) (eqb (length x) 2) g in
-          let framed = of-kind noRouteKind (eqb-true (r .kind) noRouteKind (both .0)) in
-          checked-outcome 17 0 (u16 x 0 ∷ []) (λ h. no-route x framed (eqb-true (length x) 2 (both .1)) (h .place-below 0 (omega arith)))
+          let parts = both (eqb (r .kind) noRouteKind) (eqb (length x) 2) g in
+          let framed = of-kind noRouteKind (eqb-true (r .kind) noRouteKind (parts .0)) in
+          checked-outcome 17 0 (u16 x 0 ∷ []) (λ h. no-route x framed (eqb-true (length x) 2 (parts .1)) (h .place-below 0 (omega arith)))
       go false f false g = refused 18 (omega arith) (omega arith)
 
   outcome : Outcome b (readSheet b)

@@ -228,8 +228,8 @@ module _ {n m arcs start limit budget left : ℕ} {w₀ : List ℕ} {hand : ℕ}
               (r .moved u h)
           go (no h) =
               let never = not-true-false (settledAt n m hand₂ w₂ u) (λ t. h (settled-is n m hand₂ w₂ u t .place)) in
-              let neither = not-true-false (settledAt n m hand₁ w₁ u) (λ t. h (settled-is n m hand₁ w₁ u t .place)) in
-              never ∙ sym neither ∙ settled₁ u
+              let unsettled = not-true-false (settledAt n m hand₁ w₁ u) (λ t. h (settled-is n m hand₁ w₁ u t .place)) in
+              never ∙ sym unsettled ∙ settled₁ u
 
       pub searching-on : (count ≡ budget → ⊥) → (count ≡ left → ⊥) → Searching n m start limit budget left w₀ hand₂ w₂ (count + 1)
       unfolding w₁

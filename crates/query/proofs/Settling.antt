@@ -1,7 +1,7 @@
 -- What paths pass in a uniform-cost search under way, and what expanding its first open place keeps. Assumes nothing.
 use mathlib.Core.Path.{_≡_, refl, sym, ap, _∙_}
 use mathlib.Core.Logic.{_⊎_, inl, inr}
-use mathlib.Core.Bool.{Bool, true, false, false≢true, _||_, or-true, or-false as or-right-false}
+use mathlib.Core.Bool.{Bool, true, false, false≢true, _||_, or-true, or-false}
 use mathlib.Core.Option.{Option, some}
 use Prim.Native.Nat.{ℕ, _+_, _≤_, _<_}
 use native.Mathlib.Nat.{le-refl}
@@ -13,7 +13,7 @@ use Rattle.model.specs.Problem.{Problem, Arc, IsArc, IsGoal, Valid}
 use Rattle.model.specs.Paths.{stay, on, PathTo, Within, PathWithin}
 use Rattle.model.specs.Costs.{costAt, table}
 use Rattle.model.specs.Terms.{AtMost}
-use Rattle.model.proofs.Lists.{or-false}
+use Rattle.model.proofs.Lists.{neither}
 use Rattle.model.proofs.Relaxing.{weaken}
 use Rattle.model.proofs.LeastCosts.{entry-below, table-least}
 use Rattle.model.proofs.Keys.{NotBefore}
@@ -38,7 +38,7 @@ also-true settled v u h = go (settled u) refl h
 also-false : (settled : ℕ → Bool) (v u : ℕ) → also settled v u ≡ false → (settled u ≡ false) × (u ≡ v → ⊥)
 unfolding also
 also-false settled v u h =
-    let parts = or-false (settled u) (eqb u v) h in
+    let parts = neither (settled u) (eqb u v) h in
     (parts .0, eqb-false u v (parts .1))
 
 pub also-same : (settled : ℕ → Bool) (v u : ℕ) → u ≡ v → also settled v u ≡ true
@@ -47,7 +47,7 @@ also-same settled v u e = rw (eq-eqb u v e) (or-true (settled u))
 
 pub also-other : (settled : ℕ → Bool) (v u : ℕ) → (u ≡ v → ⊥) → also settled v u ≡ settled u
 unfolding also
-also-other settled v u n = rw (ne-eqb u v n) (or-right-false (settled u))
+also-other settled v u n = rw (ne-eqb u v n) (or-false (settled u))
 
 pub before-below : {x u y w : ℕ} → Before x u y w → x ≤ y
 before-below (inl h) = omega arith

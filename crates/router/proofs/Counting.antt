@@ -16,7 +16,7 @@ use Rattle.model.specs.Costs.{table}
 use Rattle.model.specs.Rounds.{search}
 use Rattle.model.specs.Routes.{routeTo}
 use Rattle.model.specs.Answer.{Ending, routed, searched}
-use Rattle.model.proofs.Lists.{or-false, any-false, filter-member, filter-shorter}
+use Rattle.model.proofs.Lists.{neither, any-false, filter-member, filter-shorter}
 use Rattle.model.proofs.Indices.{Different, different-repeats}
 use Rattle.model.proofs.Endings.{IsSpent, IsNoRoute, IsRouted, search-ends}
 use Rattle.model.proofs.RouteSheets.{route-possible}
@@ -28,7 +28,7 @@ different-among : (xs ys : List ℕ) → repeats xs ≡ false → ((x : ℕ) →
 unfolding repeats member
 different-among [] ys e h = omega arith
 different-among (x ∷ xs) ys e h =
-    let (new, rest) = or-false (member x xs) (repeats xs) e in
+    let (new, rest) = neither (member x xs) (repeats xs) e in
     let other : ℕ → Bool = λ y. not (eqb x y) in
     let shorter = filter-shorter other ys x (h x (List·Memᴰ·head refl)) (ap not (eq-eqb x x refl)) in
     let among : (y : ℕ) → List·Memᴰ y xs → List·Memᴰ y (filter other ys) =

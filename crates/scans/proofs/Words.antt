@@ -13,7 +13,7 @@ use borrow.Author.Tests.{lt-ltb, eq-eqb, ne-eqb, ltb-true, eqb-true, eqb-false, 
 use Rattle.open_list.specs.Entry.{noKey}
 use Rattle.model.specs.Costs.{costAt}
 use Rattle.model.specs.Terms.{AtMost}
-use Rattle.model.proofs.Lists.{none-some, and-true}
+use Rattle.model.proofs.Lists.{none-some, both}
 use Rattle.model.proofs.Indices.{getD-default}
 use Rattle.scans.specs.Area.{wordOr, labels, keys, settledAt}
 
@@ -106,10 +106,10 @@ pub record HasSettled (n m hand : ℕ) (w : List ℕ) (v : ℕ) : Type 0 where
 pub settled-is : (n m hand : ℕ) (w : List ℕ) (v : ℕ) → settledAt n m hand w v ≡ true → HasSettled n m hand w v
 unfolding settledAt
 settled-is n m hand w v e =
-    let both = and-true (ltb v n) _ e in
-    let rest = and-true (not (eqb (getD w v 0) noKey)) _ (both .1) in
+    let first = both (ltb v n) _ e in
+    let rest = both (not (eqb (getD w v 0) noKey)) _ (first .1) in
     record {
-      place = ltb-true v n (both .0);
+      place = ltb-true v n (first .0);
       label = eqb-false (getD w v 0) noKey (not-true _ (rest .0));
       key = eqb-true (getD (keys n m hand w) v 0) noKey (rest .1);
     }
