@@ -14,8 +14,11 @@ extern "C" {
 
 namespace {
 
-// calls of each kind on each map, of which the fastest counts
-constexpr int turns = 100;
+// calls of each kind, of which the fastest counts: the shorter a call, the more it takes to meet one that nothing disturbs
+int turns(const Map &m)
+{
+    return static_cast<int>(std::min(100 * 4096 / m.places, 2000u));
+}
 
 // processor time, so that what else runs on the machine does not count
 double seconds(const std::function<void()> &call)
@@ -83,7 +86,7 @@ class Pair {
 // Both calls on one map, again and again. Whether their answers agreed, the reading's with 16.
 bool time_all(const Map &m, Pair &whole, Pair &reading)
 {
-    for (int turn = 0; turn < turns; turn++) {
+    for (int turn = 0; turn < turns(m); turn++) {
         whole.turn(turn % 2 == 0);
         reading.turn(turn % 2 == 0);
         if (!whole.agree(0) || !reading.agree(16)) {
