@@ -8,35 +8,26 @@ import random
 import subprocess
 import sys
 
-PLACES, COST = 4096, 65535
-
-
-def u16(n):
-    return n.to_bytes(2, 'little')
-
-
-def sheet(kind, body):
-    return u16(len(body)) + u16(kind) + body
+from reference import COST, PLACES, p16, record, u16, u32
 
 
 def route(cost, places, count=None):
-    return sheet(17, cost.to_bytes(4, 'little') + u16(len(places) if count is None else count) + b''.join(map(u16, places)))
+    return record(17, cost.to_bytes(4, 'little') + p16(len(places) if count is None else count) + b''.join(map(p16, places)))
 
 
 def no_route(start):
-    return sheet(18, u16(start))
+    return record(18, p16(start))
 
 
 def read(b):
     """number, cost and places, by the paper's conditions 18 and 19"""
-    if len(b) < 4 or len(b) != 4 + int.from_bytes(b[:2], 'little'):
+    if len(b) < 4 or len(b) != 4 + u16(b, 0):
         return 18, 0, []
-    kind, body = int.from_bytes(b[2:4], 'little'), b[4:]
+    kind, body = u16(b, 2), b[4:]
     if kind == 18 and len(body) == 2:
-        number, cost, places = 17, 0, [int.from_bytes(body, 'little')]
-    elif kind == 17 and len(body) >= 6 and len(body) == 6 + 2 * int.from_bytes(body[4:6], 'little'):
-        number, cost = 0, int.from_bytes(body[:4], 'little')
-        places = [int.from_bytes(body[i:i + 2], 'little') for i in range(6, len(body), 2)]
+        number, cost, places = 17, 0, [u16(body, 0)]
+    elif kind == 17 and len(body) >= 6 and len(body) == 6 + 2 * u16(body, 4):
+        number, cost, places = 0, u32(body, 0), [u16(body, i) for i in range(6, len(body), 2)]
     else:
         return 18, 0, []
     p = len(places)
@@ -47,7 +38,7 @@ def read(b):
 
 def samples(rnd):
     full = list(range(PLACES))
-    yield from (b'', b'\0', b'\0\0\0', b'\0\0\x11\0', sheet(17, b''), sheet(18, b''), sheet(18, b'\1'), sheet(18, b'\1\0\0'), sheet(19, route(1, [0, 1])[4:]))
+    yield from (b'', b'\0', b'\0\0\0', b'\0\0\x11\0', record(17, b''), record(18, b''), record(18, b'\1'), record(18, b'\1\0\0'), record(19, route(1, [0, 1])[4:]))
     yield from (no_route(0), no_route(4095), no_route(4096), no_route(65535), no_route(7) + no_route(7), no_route(7) + b'\0')
     yield from (route(0, []), route(0, [0]), route(1, [0]), route(0, [4095]), route(0, [4096]))
     yield from (route(4095, full), route(4095 * COST, full), route(4094, full), route(4095 * COST + 1, full))

@@ -74,6 +74,7 @@ note n p r =
 abbrev pub nothing : Fields
 nothing = record { «arc_outside» = false; free = false; «estimate_outside» = false; large = false; twice = false }
 
+-- an arc or an estimate names a place that the map does not have
 abbrev pub outsideOf : Fields → Bool
 outsideOf f = f .«arc_outside» || f .«estimate_outside»
 
