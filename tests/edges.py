@@ -49,6 +49,8 @@ def ends_of_fields():
         yield head(2, 1) + arc(0, 1, cost) + job(0, 472, [1])
     for h in (0, 1, ESTIMATE, ESTIMATE + 1, 2 ** 32 - 1):
         yield from (one + estimate(0, h) + job(0, 708, [1]), one + estimate(0, h) + job(0, 708, [2]), one + estimate(1, h) + job(0, 708, [1]))
+    for first, second in ((1, 1), (1, 2), (0, 2), (2, 0)):
+        yield one + estimate(2, first) + estimate(2, second) + job(0, 708, [1])
     for allowance in (0, 1, 2, 2 ** 32 - 1):
         yield one + job(0, allowance, [1])
     for k in (0, 1, GOALS, GOALS + 1):

@@ -29,7 +29,7 @@ use Rattle.model.proofs.Total.{digits-below, total-bounded, closes-over
 use Rattle.model.proofs.Routes.{route-within}
 
 -- an arc in front of a walk
-arc-then : {p : Problem} {v e : ℕ} (a : Arc) → IsArc p a → Walk p (a .to) v e → Walk p (a .from) v (a .cost + e)
+pub arc-then : {p : Problem} {v e : ℕ} (a : Arc) → IsArc p a → Walk p (a .to) v e → Walk p (a .from) v (a .cost + e)
 arc-then {p} a i stay = subst (Walk p (a .from) (a .to)) (omega arith) (on a i stay)
 arc-then a i (on {d = d} b j w) =
     let same : a .cost + d + b .cost ≡ a .cost + (d + b .cost) = omega arith in
@@ -86,7 +86,7 @@ module _ (p : Problem) (ok : Valid p) where
     estimate-at-most : {v g e : ℕ} → IsGoal p g → Walk p v g e → p .estimate v ≤ e
     unfolding Admissible
     estimate-at-most {v} {g} {e} i w =
-        let fits : ¬ (e < p .estimate v) = λ h. A v (record { goal = g; is-goal = i; cost = e; walk = w; above = h }) in
+        let fits : ¬ (e < p .estimate v) = λ h. A v (record { goal = g; is-goal = i; cost = e; walk = w; above = omega arith }) in
         omega arith
 
     -- a walk from whose end another leads to a goal, of cost at most C together, is within C

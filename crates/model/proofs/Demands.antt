@@ -1,7 +1,7 @@
--- The demands on the R3, of the definitions that the public promises cite (`route` for the call, `readSheet` for a read), for every input and
--- every lent area.
+-- The demands on the R3, of a program: `P c r` says that the call c may come to the result r, as the program's promise has it. They hold of
+-- every program that keeps to the definition `route`, for every input and every lent area.
 -- Each demand is a record of statements; its proof stands right under it. Assumes nothing.
-use mathlib.Core.Path.{_≡_, sym, ap, _∙_}
+use mathlib.Core.Path.{_≡_, sym, ap, subst⁻¹, _∙_}
 use mathlib.Core.Logic.{_↔_, _⊎_, inl, inr}
 use mathlib.Core.Bool.{true, false}
 use mathlib.Core.List.{List, [], _∷_, _++_, List·Memᴰ}
@@ -18,10 +18,11 @@ use Rattle.model.specs.Costs.{table}
 use Rattle.model.specs.Query.{within}
 use Rattle.model.specs.Rounds.{trace, total}
 use Rattle.model.specs.Sheets.{routeSheet, noRouteSheet, reading, refusedRead, readSheet}
-use Rattle.model.specs.Answer.{answer}
-use Rattle.model.specs.Calls.{Call, result, problem, allowance, written, IsAccepted, IsWritten}
+use Rattle.model.specs.Answer.{Result, answer}
+use Rattle.model.specs.Calls.{Call, problem, allowance, IsAccepted, result, written, Program, Defined, Keeps, Writes}
 use Rattle.model.specs.Jobs.{routeJob, noRouteJob}
 use Rattle.model.proofs.Admissible.{admissible-total-2}
+use Rattle.model.proofs.Overstating.{has-cheapest}
 use Rattle.model.proofs.Sheets.{refused-otherwise}
 use Rattle.model.proofs.Promises.{row-refuses, no-row-accepts, problem-growth, ends, valid, ends-number}
 use Rattle.model.proofs.Promises.{spent-by-number, none-by-number, route-by-number}
@@ -31,57 +32,57 @@ use Rattle.model.proofs.Promises.{Says, sheet-says, first-sheet, none-s
 
 -- Demand 1: if the map, the job or the lent memory breaks a rule, the call ends with the number that document 01 gives, and every lent
 -- byte and word is as before.
-pub record Demand1 (c : Call) : Type 0 where
+pub record Demand1 (c : Call) (r : Result) : Type 0 where
   -- a row of the table of conditions holds: its number is given where no earlier row holds, with six zeros, and nothing lent has changed
   pub refused : (earlier : List Row) (n : ℕ) (later : List Row)
       → rows (frame (c .input)) (length (c .work)) (length (c .sheet)) ≡ earlier ++ (record { number = n; holds = true } ∷ later)
-      → ((r : Row) → List·Memᴰ r earlier → r .holds ≡ false)
-      → result c ≡ record { answer = answer n 0 0 0 0 0 0; work = c .work; sheet = c .sheet }
+      → ((x : Row) → List·Memᴰ x earlier → x .holds ≡ false)
+      → r ≡ record { answer = answer n 0 0 0 0 0 0; work = c .work; sheet = c .sheet }
   -- and where no row holds the number is none of 1 to 15
-  pub accepted : ((r : Row) → List·Memᴰ r (rows (frame (c .input)) (length (c .work)) (length (c .sheet))) → r .holds ≡ false)
-      → (result c .answer .number ≡ 0) ⊎ ((result c .answer .number ≡ 16) ⊎ (result c .answer .number ≡ 17))
+  pub accepted : ((x : Row) → List·Memᴰ x (rows (frame (c .input)) (length (c .work)) (length (c .sheet))) → x .holds ≡ false)
+      → (r .answer .number ≡ 0) ⊎ ((r .answer .number ≡ 16) ⊎ (r .answer .number ≡ 17))
 
-pub demand-1 : (c : Call) → Demand1 c
+demand-1 : (c : Call) → Demand1 c (result c)
 demand-1 c = record {
   refused = row-refuses (c .input) (c .work) (c .sheet);
   accepted = λ fails. ends-number (ends c (no-row-accepts (c .input) (c .work) (c .sheet) fails));
 }
 
 -- a cheapest route on the sheet
-pub record CheapestOnSheet (c : Call) : Type 0 where
+pub record CheapestOnSheet (c : Call) (r : Result) : Type 0 where
   pub places : List ℕ
-  pub is-route : Route (problem c) (result c .answer .cost) places
-  pub cheapest : Cheapest (problem c) (result c .answer .cost)
-  pub on-sheet : written c ≡ routeSheet (result c .answer .cost) places
+  pub is-route : Route (problem c) (r .answer .cost) places
+  pub cheapest : Cheapest (problem c) (r .answer .cost)
+  pub on-sheet : written r ≡ routeSheet (r .answer .cost) places
 
 -- a route on the sheet that is the first cheapest one within the reported limit
-pub record WithinOnSheet (c : Call) : Type 0 where
+pub record WithinOnSheet (c : Call) (r : Result) : Type 0 where
   pub places : List ℕ
-  pub first : FirstWithin (problem c) (result c .answer .limit) (result c .answer .cost) places
-  pub on-sheet : written c ≡ routeSheet (result c .answer .cost) places
+  pub first : FirstWithin (problem c) (r .answer .limit) (r .answer .cost) places
+  pub on-sheet : written r ≡ routeSheet (r .answer .cost) places
 
 -- Demand 2, of an accepted call.
-pub record Demand2 (c : Call) : Type 0 where
+pub record Demand2 (c : Call) (r : Result) : Type 0 where
   -- no estimate overstates, a goal can be reached and the allowance lasts: a cheapest route
   pub cheapest : Admissible (problem c) → GoalReachable (problem c) → total (trace (problem c)) ≤ allowance c
-      → (result c .answer .number ≡ 0) × CheapestOnSheet c
+      → (r .answer .number ≡ 0) × CheapestOnSheet c r
   -- under any estimates, 'no route' exactly where no goal can be reached, unless the allowance is spent
-  pub no-route : (result c .answer .number ≡ 16 → ⊥) → (result c .answer .number ≡ 17) ↔ (GoalReachable (problem c) → ⊥)
-  pub no-route-sheet : result c .answer .number ≡ 17 → written c ≡ noRouteSheet (problem c .start)
+  pub no-route : (r .answer .number ≡ 16 → ⊥) → (r .answer .number ≡ 17) ↔ (GoalReachable (problem c) → ⊥)
+  pub no-route-sheet : r .answer .number ≡ 17 → written r ≡ noRouteSheet (problem c .start)
   -- 'allowance spent' exactly where the search needs more, and never with 236 for each place
-  pub spent : (result c .answer .number ≡ 16) ↔ (allowance c < total (trace (problem c)))
-  pub never-spent : 236 * problem c .places ≤ allowance c → result c .answer .number ≡ 16 → ⊥
+  pub spent : (r .answer .number ≡ 16) ↔ (allowance c < total (trace (problem c)))
+  pub never-spent : 236 * problem c .places ≤ allowance c → r .answer .number ≡ 16 → ⊥
   -- expansions is the sum of what the queries cost, and the allowance where that is spent
-  pub expansions : (result c .answer .number ≡ 16 → ⊥) → result c .answer .expansions ≡ total (trace (problem c))
-  pub spent-expansions : result c .answer .number ≡ 16 → result c .answer .expansions ≡ allowance c
+  pub expansions : (r .answer .number ≡ 16 → ⊥) → r .answer .expansions ≡ total (trace (problem c))
+  pub spent-expansions : r .answer .number ≡ 16 → r .answer .expansions ≡ allowance c
   -- the sheet is read back as it was written
-  pub route-read-back : result c .answer .number ≡ 0
-      → (r : List ℕ) × (written c ≡ routeSheet (result c .answer .cost) r) × (readSheet (written c) ≡ reading 0 (result c .answer .cost) r)
-  pub no-route-read-back : result c .answer .number ≡ 17 → readSheet (written c) ≡ reading 17 0 (problem c .start ∷ [])
+  pub route-read-back : r .answer .number ≡ 0
+      → (s : List ℕ) × (written r ≡ routeSheet (r .answer .cost) s) × (readSheet (written r) ≡ reading 0 (r .answer .cost) s)
+  pub no-route-read-back : r .answer .number ≡ 17 → readSheet (written r) ≡ reading 17 0 (problem c .start ∷ [])
   -- under any estimates, a route is cheapest among the paths to a goal within the reported limit
-  pub within-limit : result c .answer .number ≡ 0 → WithinOnSheet c
+  pub within-limit : r .answer .number ≡ 0 → WithinOnSheet c r
 
-pub demand-2 : (c : Call) → IsAccepted c → Demand2 c
+demand-2 : (c : Call) → IsAccepted c → Demand2 c (result c)
 demand-2 c A =
     let e = ends c A in
     record {
@@ -100,15 +101,34 @@ demand-2 c A =
       within-limit = λ n. let f = route-by-number e n in record { places = f .places; first = f .first-within; on-sheet = f .on-sheet };
     }
 
--- Demand 2, of the display: it accepts, as 0 or 17, only bytes that some job could produce. Each is the sheet of this job, which is accepted.
-pub record DemandSheets (b : List ℕ) : Type 0 where
-  pub route : readSheet b .number ≡ 0 → (r : List ℕ) × IsWritten (routeJob (readSheet b .cost) r) b
-  pub no-route : readSheet b .number ≡ 17 → (start : ℕ) × IsWritten (noRouteJob start) b
+-- Demand 2, of a read of any bytes b: it is accepted, as 0 or 17, only where some job could produce them. Each is the sheet of this job.
+pub record DemandSheets (P : Program) (b : List ℕ) : Type 0 where
+  pub route : readSheet b .number ≡ 0 → (r : List ℕ) × Writes P (routeJob (readSheet b .cost) r) 0 b
+  pub no-route : readSheet b .number ≡ 17 → (start : ℕ) × Writes P (noRouteJob start) 17 b
   -- every other read is refused, with 18 or 19 and zeros
   pub refused : (readSheet b .number ≡ 0 → ⊥) → (readSheet b .number ≡ 17 → ⊥) → (n : ℕ) × (readSheet b ≡ refusedRead n) × (18 ≤ n) × (n ≤ 19)
 
-pub demand-sheets : (b : List ℕ) → Bytes b → DemandSheets b
-demand-sheets b B = record { route = accepted-route-written b B; no-route = accepted-no-route-written b B; refused = refused-otherwise b }
+module _ (P : Program) (keeps : Keeps P) where
+  -- what the definition writes the program writes
+  writes : {job b : List ℕ} {n : ℕ} → Writes Defined job n b → Writes P job n b
+  writes w =
+      record {
+        call = w .call;
+        after = w .after;
+        comes = subst⁻¹ (λ x. P (w .call) x) (w .comes) (keeps .gives (w .call));
+        is-job = w .is-job;
+        accepted = w .accepted;
+        number = w .number;
+        on-sheet = w .on-sheet;
+      }
+
+  demand-sheets : (b : List ℕ) → Bytes b → DemandSheets P b
+  demand-sheets b B =
+      record {
+        route = λ n. let (r, w) = accepted-route-written b B n in (r, writes w);
+        no-route = λ n. let (start, w) = accepted-no-route-written b B n in (start, writes w);
+        refused = refused-otherwise b;
+      }
 
 -- what demand 3 asks of each of two jobs whose sheets are compared
 pub record Comparable (c : Call) : Type 0 where
@@ -130,34 +150,58 @@ pub record SameNoRoute (c d : Call) : Type 0 where
   pub second : GoalReachable (problem d) → ⊥
 
 -- Demand 3, undivided.
-pub record Demand3 : Type 0 where
+pub record Demand3 (P : Program) : Type 0 where
   -- any two sheets are equal byte for byte exactly when both jobs have the same first cheapest route, or the same start and no route
-  pub equal-sheets : (c d : Call) → Comparable c → Comparable d → (written c ≡ written d) ↔ (SameFirstRoute c d ⊎ SameNoRoute c d)
+  pub equal-sheets : (c d : Call) (r s : Result) → P c r → P d s → Comparable c → Comparable d
+      → (written r ≡ written s) ↔ (SameFirstRoute c d ⊎ SameNoRoute c d)
   -- for each job with a route and no estimate that overstates, whatever its allowance: the bound on the expansions carried in the answer, with n
   -- the places within the cheapest cost k and d its binary digits
-  pub expansions : (c : Call) → IsAccepted c → Admissible (problem c) → (k : ℕ) → Cheapest (problem c) k
-      → result c .answer .expansions ≤ 4 * length (within (table (problem c) k)) * (2 * binaryDigits k + 1)
+  pub expansions : (c : Call) (r : Result) → P c r → IsAccepted c → Admissible (problem c) → (k : ℕ) → Cheapest (problem c) k
+      → r .answer .expansions ≤ 4 * length (within (table (problem c) k)) * (2 * binaryDigits k + 1)
+  -- and every job with a route has a cheapest cost
+  pub some-cheapest : (c : Call) → IsAccepted c → GoalReachable (problem c) → (k : ℕ) × Cheapest (problem c) k
 
-pub demand-3 : Demand3
+demand-3 : Demand3 Defined
 demand-3 = record {
-  equal-sheets = λ c d C D. (equal-then-same c d (says c C) (says d D), same-then-equal c d C D);
-  expansions = λ c A h k cheapest.
+  equal-sheets = λ c d r s g h C D. rw (g, h) (equal-then-same c d (says c C) (says d D), same-then-equal c d C D);
+  expansions = λ c r g A h k cheapest.
       let bound = admissible-total-2 (problem c) (valid c A) h k cheapest (problem-growth (c .input)) in
-      le-trans (expansions-at-most (ends c A)) bound;
+      rw g (le-trans (expansions-at-most (ends c A)) bound);
+  some-cheapest = λ c A reachable. has-cheapest (problem c) (valid c A) reachable;
 }
   where
-    says : (c : Call) → Comparable c → Says (problem c) (written c)
+    says : (c : Call) → Comparable c → Says (problem c) (written (result c))
     says c C = sheet-says (ends c (C .accepted)) (C .ample) (C .admissible)
 
-    equal-then-same : (c d : Call) → Says (problem c) (written c) → Says (problem d) (written d) → written c ≡ written d
-        → SameFirstRoute c d ⊎ SameNoRoute c d
+    equal-then-same : (c d : Call) → Says (problem c) (written (result c)) → Says (problem d) (written (result d))
+        → written (result c) ≡ written (result d) → SameFirstRoute c d ⊎ SameNoRoute c d
     equal-then-same c d (inl x) (inl y) e = inl (record { cost = x .cost; places = x .places; first = x .first; second = equal-routes e x y })
     equal-then-same c d (inl x) (inr y) e = absurd (never-equal e x y)
     equal-then-same c d (inr x) (inl y) e = absurd (never-equal (sym e) y x)
     equal-then-same c d (inr x) (inr y) e = inr (record { start = equal-starts e x y; first = x .unreachable; second = y .unreachable })
 
-    same-then-equal : (c d : Call) → Comparable c → Comparable d → SameFirstRoute c d ⊎ SameNoRoute c d → written c ≡ written d
+    same-then-equal : (c d : Call) → Comparable c → Comparable d → SameFirstRoute c d ⊎ SameNoRoute c d → written (result c) ≡ written (result d)
     same-then-equal c d C D (inl s) =
         first-sheet (valid c (C .accepted)) (says c C) (s .first) ∙ sym (first-sheet (valid d (D .accepted)) (says d D) (s .second))
     same-then-equal c d C D (inr n) =
         none-sheet (says c C) (n .first) ∙ ap noRouteSheet (n .start) ∙ sym (none-sheet (says d D) (n .second))
+
+-- All demands, of a program.
+pub record Demands (P : Program) : Type 0 where
+  pub demand-1 : (c : Call) (r : Result) → P c r → Demand1 c r
+  pub demand-2 : (c : Call) (r : Result) → P c r → IsAccepted c → Demand2 c r
+  pub demand-sheets : (b : List ℕ) → Bytes b → DemandSheets P b
+  pub demand-3 : Demand3 P
+
+-- They hold of every program that keeps to the definition.
+pub demands : (P : Program) → Keeps P → Demands P
+demands P keeps = record {
+  demand-1 = λ c r g. subst⁻¹ (λ x. Demand1 c x) (keeps .only c r g) (demand-1 c);
+  demand-2 = λ c r g A. subst⁻¹ (λ x. Demand2 c x) (keeps .only c r g) (demand-2 c A);
+  demand-sheets = demand-sheets P keeps;
+  demand-3 = record {
+    equal-sheets = λ c d r s g h. demand-3 .equal-sheets c d r s (keeps .only c r g) (keeps .only d s h);
+    expansions = λ c r g. demand-3 .expansions c r (keeps .only c r g);
+    some-cheapest = demand-3 .some-cheapest;
+  };
+}

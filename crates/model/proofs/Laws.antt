@@ -20,7 +20,7 @@ use Rattle.model.specs.Query.{Key, within, firstGoal, ended, over, found
 use Rattle.model.specs.Rounds.{Step, firstRound, ask, trace, total, search}
 use Rattle.model.specs.Routes.{routeTo}
 use Rattle.model.specs.Answer.{searched}
-use Rattle.model.specs.Terms.{AtMost, Inside, Kept, Finished, LowNeverFalls, Closes, CutAt, Run, SameProblem}
+use Rattle.model.specs.Terms.{AtMost, Inside, Kept, Finished, LowNeverFalls, Closes, CutAt, Run, SameProblem, costToGoal}
 use Rattle.model.proofs.Acceptance
 use Rattle.model.proofs.LeastCosts
 use Rattle.model.proofs.Keys
@@ -31,6 +31,7 @@ use Rattle.model.proofs.Total
 use Rattle.model.proofs.Traces
 use Rattle.model.proofs.Routes
 use Rattle.model.proofs.Admissible
+use Rattle.model.proofs.Overstating
 use Rattle.model.proofs.Allowance
 use Rattle.model.proofs.Same
 
@@ -56,6 +57,14 @@ module _ (p : Problem) (ok : Valid p) where
   -- A path within a larger limit that stays among the places within C is nowhere cheaper than D.
   pub inside-not-cheaper : (C E : ℕ) → C ≤ E → {v d : ℕ} (w : PathTo p v d) → Within E w → Inside C w → AtMost (costAt (table p C) v) d
   inside-not-cheaper C E h w i s = LeastCosts.inside-not-cheaper p ok C E h w i s
+
+  -- Nothing overstates exactly where no estimate is above the least cost from its place to a goal.
+  pub admissible-exactly : Admissible p ↔ ((v : ℕ) → p .estimate v ≤ costToGoal p v)
+  admissible-exactly = Overstating.admissible-exactly p ok
+
+  -- Every problem with a route has a cheapest cost.
+  pub has-cheapest : GoalReachable p → (k : ℕ) × Cheapest p k
+  has-cheapest r = Overstating.has-cheapest p ok r
 
   -- ---- One query
 

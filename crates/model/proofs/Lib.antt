@@ -1,6 +1,7 @@
 -- Laws of the definitions, in the order in which they rest on each other; the demands come last.
 pub mod Compute
 pub mod Runs
+pub mod Edges
 pub mod Lists
 pub mod Bytes
 pub mod Framing
@@ -17,6 +18,8 @@ pub mod Total
 pub mod Traces
 pub mod Routes
 pub mod Admissible
+pub mod Overstating
+pub mod Estimates
 pub mod Allowance
 pub mod Sheets
 pub mod RouteSheets

@@ -21,7 +21,7 @@ use Rattle.model.specs.Costs.{table}
 use Rattle.model.specs.Rounds.{trace, total}
 use Rattle.model.specs.Routes.{routeTo}
 use Rattle.model.specs.Sheets.{routeSheet, noRouteSheet, reading, readSheet}
-use Rattle.model.specs.Calls.{Call, result, problem, allowance, IsAccepted}
+use Rattle.model.specs.Calls.{Call, result, problem, allowance, IsAccepted, written}
 use Rattle.model.specs.Answer.{Ending, endingIf, ending, answer, sheetOf, answerOf, overFront, workAfter}
 use Rattle.model.specs.Answer.{Result, route}
 use Rattle.model.proofs.Lists.{any-false}
@@ -80,10 +80,6 @@ module _ (input work sheet : List ℕ) where
 
 -- ---- An accepted call
 
--- the sheet written: the first `sheet bytes` bytes of the sheet area
-abbrev pub writtenOn : Result → List ℕ
-writtenOn r = take (r .answer .sheet-bytes) (r .sheet)
-
 module _ (p : Problem) (a : ℕ) (r : Result) where
   -- 16, allowance spent
   pub record Spends : Type 0 where
@@ -99,8 +95,8 @@ module _ (p : Problem) (a : ℕ) (r : Result) where
     pub unreachable : GoalReachable p → ⊥
     pub expansions : r .answer .expansions ≡ total (trace p)
     pub start-below : p .start < maxPlaces
-    pub on-sheet : writtenOn r ≡ noRouteSheet (p .start)
-    pub read-back : readSheet (writtenOn r) ≡ reading 17 0 (p .start ∷ [])
+    pub on-sheet : written r ≡ noRouteSheet (p .start)
+    pub read-back : readSheet (written r) ≡ reading 17 0 (p .start ∷ [])
 
   -- 0, a route
   pub record FindsRoute : Type 0 where
@@ -112,8 +108,8 @@ module _ (p : Problem) (a : ℕ) (r : Result) where
     pub possible : Possible (r .answer .cost) places
     pub first-within : FirstWithin p (r .answer .limit) (r .answer .cost) places
     pub first-cheapest : Admissible p → FirstCheapest p (r .answer .cost) places
-    pub on-sheet : writtenOn r ≡ routeSheet (r .answer .cost) places
-    pub read-back : readSheet (writtenOn r) ≡ reading 0 (r .answer .cost) places
+    pub on-sheet : written r ≡ routeSheet (r .answer .cost) places
+    pub read-back : readSheet (written r) ≡ reading 0 (r .answer .cost) places
 
   -- how an accepted call ends
   pub data Ends : Type 0 where
@@ -260,7 +256,7 @@ abbrev pub Says : Problem → List ℕ → Type 0
 Says p sheet = SaysRoute p sheet ⊎ SaysNone p sheet
 
 -- with 236 for each place and no estimate that overstates the sheet says the one or the other
-pub sheet-says : {p : Problem} {a : ℕ} {r : Result} → Ends p a r → 236 * p .places ≤ a → Admissible p → Says p (writtenOn r)
+pub sheet-says : {p : Problem} {a : ℕ} {r : Result} → Ends p a r → 236 * p .places ≤ a → Admissible p → Says p (written r)
 sheet-says (spent-ends s) ample h = absurd (omega arith)
 sheet-says (none-ends n) ample h =
     inr (record { unreachable = n .unreachable; start-below = n .start-below; on-sheet = n .on-sheet })

@@ -18,7 +18,7 @@ use Rattle.model.specs.Sheets.{routeSheet, noRouteSheet, readSheet}
 use Rattle.model.specs.Jobs.{routeJob, noRouteJob, ample, putHead}
 use Rattle.model.proofs.Sheets.{Possible, accepted-route, accepted-no-route}
 use Rattle.model.proofs.Laws.{total-at-most-2}
-use Rattle.model.specs.Calls.{Call, IsAccepted, written, result, problem, allowance, IsWritten}
+use Rattle.model.specs.Calls.{Call, IsAccepted, result, problem, allowance, Defined, Writes}
 use Rattle.model.proofs.Promises.{FindsRoute, ends, route-if-reachable, none-if-unreachable, spent-by-number}
 use Rattle.model.proofs.PlainJobs.{plain, putArcs, plainJob, plain-bytes, plain-framed, plain-states, plain-problem}
 use Rattle.model.proofs.PlainAccepted.{plain-accepted}
@@ -77,26 +77,43 @@ module _ (input : List ℕ) (arcs : List Arc) (start goal : ℕ) (is : input ≡
 
   -- where every route is the same one, it is the one on the sheet
   only-route-written : (cost : ℕ) (r : List ℕ) → GoalReachable (plain arcs start goal)
-      → ((c : ℕ) (s : List ℕ) → Route (plain arcs start goal) c s → (c ≡ cost) × (s ≡ r)) → IsWritten input (routeSheet cost r)
+      → ((c : ℕ) (s : List ℕ) → Route (plain arcs start goal) c s → (c ≡ cost) × (s ≡ r)) → Writes Defined input 0 (routeSheet cost r)
   unfolding plainCall callOn
   only-route-written cost r reachable only =
       let admissible : Admissible (problem plainCall) = rw call-problem (plain-admissible arcs start goal) in
       let some : GoalReachable (problem plainCall) = rw call-problem reachable in
       from-sheet admissible (route-if-reachable (ends plainCall call-accepted) call-lasts some)
     where
-      from-sheet : Admissible (problem plainCall) → FindsRoute (problem plainCall) (allowance plainCall) (result plainCall) → IsWritten input (routeSheet cost r)
+      from-sheet : Admissible (problem plainCall) → FindsRoute (problem plainCall) (allowance plainCall) (result plainCall) → Writes Defined input 0 (routeSheet cost r)
       from-sheet admissible sheet =
           let same = only (result plainCall .answer .cost) (sheet .places) (rw call-problem at (sheet .first-cheapest admissible .first .member)) in
-          record { call = plainCall; is-job = refl; accepted = call-accepted; on-sheet = sheet .on-sheet ∙ ap₂ routeSheet (same .0) (same .1) }
+          record {
+            call = plainCall;
+            after = result plainCall;
+            comes = refl;
+            is-job = refl;
+            accepted = call-accepted;
+            number = sheet .number;
+            on-sheet = sheet .on-sheet ∙ ap₂ routeSheet (same .0) (same .1);
+          }
 
-  unreachable-written : (GoalReachable (plain arcs start goal) → ⊥) → IsWritten input (noRouteSheet start)
+  unreachable-written : (GoalReachable (plain arcs start goal) → ⊥) → Writes Defined input 17 (noRouteSheet start)
   unfolding plain plainCall callOn
   unreachable-written unreachable =
       let e = ends plainCall call-accepted in
       let none : GoalReachable (problem plainCall) → ⊥ = rw call-problem unreachable in
       let unspent : result plainCall .answer .number ≡ 16 → ⊥ = λ n. let s = spent-by-number e n in let enough = call-ample in omega arith in
       let started : problem plainCall .start ≡ start = ap (λ (p : Problem). p .start) call-problem in
-      record { call = plainCall; is-job = refl; accepted = call-accepted; on-sheet = none-if-unreachable e unspent none .on-sheet ∙ ap noRouteSheet started }
+      let found = none-if-unreachable e unspent none in
+      record {
+        call = plainCall;
+        after = result plainCall;
+        comes = refl;
+        is-job = refl;
+        accepted = call-accepted;
+        number = found .number;
+        on-sheet = found .on-sheet ∙ ap noRouteSheet started;
+      }
 
 -- the job of a route is that of its chain
 route-job : (cost : ℕ) (places : List ℕ) → Possible cost places
@@ -109,7 +126,7 @@ route-job cost places h =
     let arcs-length : length (chain places (stepCosts cost places)) ≡ n = chain-length places (stepCosts cost places) (omega arith) ∙ costs-length in
     rw (arcs-length, chain-put, headD-getD, getLastD-getD places n more)
 
-pub route-written : (cost : ℕ) (places : List ℕ) → Possible cost places → IsWritten (routeJob cost places) (routeSheet cost places)
+pub route-written : (cost : ℕ) (places : List ℕ) → Possible cost places → Writes Defined (routeJob cost places) 0 (routeSheet cost places)
 route-written cost places h =
     only-route-written (routeJob cost places) (chain places (stepCosts cost places)) (getD places 0 0) (getD places (steps places) 0)
     (route-job cost places h) (route-few cost places h) (route-valid cost places h)
@@ -131,19 +148,19 @@ no-route-job : (start : ℕ) → noRouteJob start ≡ plainJob (chain (start ∷
 unfolding noRouteJob plainJob putHead putRecord put16 chain putArcs
 no-route-job start = refl
 
-pub no-route-written : (start : ℕ) → start < maxPlaces → IsWritten (noRouteJob start) (noRouteSheet start)
+pub no-route-written : (start : ℕ) → start < maxPlaces → Writes Defined (noRouteJob start) 17 (noRouteSheet start)
 unfolding chain
 no-route-written start h =
     let (below, other) = elsewhere-is start in
     unreachable-written (noRouteJob start) [] start (elsewhere start)
     (no-route-job start) (omega arith) (alone-valid start (elsewhere start) h below) (alone-unreachable start (elsewhere start) other)
 
-pub accepted-route-written : (b : List ℕ) → Bytes b → readSheet b .number ≡ 0 → (r : List ℕ) × IsWritten (routeJob (readSheet b .cost) r) b
+pub accepted-route-written : (b : List ℕ) → Bytes b → readSheet b .number ≡ 0 → (r : List ℕ) × Writes Defined (routeJob (readSheet b .cost) r) 0 b
 accepted-route-written b B e =
     let s = accepted-route b B e in
-    (s .places, subst⁻¹ (λ x. IsWritten (routeJob (readSheet b .cost) (s .places)) x) (s .written) (route-written _ (s .places) (s .can-be)))
+    (s .places, subst⁻¹ (λ x. Writes Defined (routeJob (readSheet b .cost) (s .places)) 0 x) (s .written) (route-written _ (s .places) (s .can-be)))
 
-pub accepted-no-route-written : (b : List ℕ) → Bytes b → readSheet b .number ≡ 17 → (start : ℕ) × IsWritten (noRouteJob start) b
+pub accepted-no-route-written : (b : List ℕ) → Bytes b → readSheet b .number ≡ 17 → (start : ℕ) × Writes Defined (noRouteJob start) 17 b
 accepted-no-route-written b B e =
     let s = accepted-no-route b B e in
-    (s .start, subst⁻¹ (λ x. IsWritten (noRouteJob (s .start)) x) (s .written) (no-route-written (s .start) (s .can-be)))
+    (s .start, subst⁻¹ (λ x. Writes Defined (noRouteJob (s .start)) 17 x) (s .written) (no-route-written (s .start) (s .can-be)))

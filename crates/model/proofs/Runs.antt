@@ -2,15 +2,14 @@
 use mathlib.Core.Path.{_≡_, refl}
 use mathlib.Core.Bool.{Bool, true, false, _&&_}
 use mathlib.Core.List.{List, [], _∷_, _++_}
-use mathlib.Core.Option.{Option, none, some}
-use Prim.Native.Nat.{ℕ}
+use mathlib.Core.Option.{none}
+use Prim.Native.Nat.{ℕ, _-_}
 use lib.Dec.{eqb}
-use lib.ListN.{take, replicate}
+use lib.ListN.{length, replicate}
 use Rattle.model.specs.Jobs.{putHead, putArc, putEstimate, putJob}
 use Rattle.model.specs.Problem.{Problem}
 use Rattle.model.specs.Costs.{table}
 use Rattle.model.specs.Query.{nextLimit}
-use Rattle.model.specs.Sheets.{readSheet}
 use Rattle.model.specs.Answer.{Answer, route}
 use Rattle.model.proofs.Compute.{compute}
 
@@ -31,7 +30,7 @@ unfolding compute cycle
 no-arc-leaves = refl
 
 -- map A with the estimate h at place 1
-mapA : ℕ → List ℕ
+unfoldable pub mapA : ℕ → List ℕ
 mapA h =
     putHead 4 4 ++ putArc 0 1 1 ++ putArc 0 2 3 ++ putArc 1 2 1 ++ putArc 2 3 3
     ++ putEstimate 0 0 ++ putEstimate 1 h ++ putEstimate 2 1 ++ putEstimate 3 0
@@ -56,82 +55,112 @@ star = putHead 4 3 ++ putArc 0 3 2 ++ putArc 0 2 2 ++ putArc 0 1 2
 detour : List ℕ
 detour = putHead 4 3 ++ putArc 0 1 5 ++ putArc 0 2 1 ++ putArc 2 3 1
 
--- One run. Of numbers (the first six of the answer), places and sheet bytes a row has those that document 01 states.
-record Run : Type 0 where
-  input : List ℕ
-  numbers : Option (List ℕ)
-  places : Option (List ℕ)
-  sheet : Option (List ℕ)
+-- One run: the input, the lengths of the lent areas, and what the call comes to: the seven numbers, how many words are 0, the sheet's bytes.
+pub record Run : Type 0 where
+  pub input : List ℕ
+  pub words : ℕ
+  pub bytes : ℕ
+  pub numbers : List ℕ
+  pub zeros : ℕ
+  pub sheet : List ℕ
 
-same : List ℕ → List ℕ → Bool
+unfoldable pub same : List ℕ → List ℕ → Bool
 same [] [] = true
 same [] (y ∷ ys) = false
 same (x ∷ xs) [] = false
 same (x ∷ xs) (y ∷ ys) = eqb x y && same xs ys
 
-stated : Option (List ℕ) → List ℕ → Bool
-stated none got = true
-stated (some xs) got = same xs got
+unfoldable pub seven : Answer → List ℕ
+seven a = a .number ∷ a .cost ∷ a .limit ∷ a .floor ∷ a .expansions ∷ a .queries ∷ a .sheet-bytes ∷ []
 
-six : Answer → List ℕ
-six a = a .number ∷ a .cost ∷ a .limit ∷ a .floor ∷ a .expansions ∷ a .queries ∷ []
+-- `new` at the front of an area of so many elements that held x throughout
+unfoldable pub over : List ℕ → ℕ → ℕ → List ℕ
+over new x size = new ++ replicate (size - length new) x
 
--- the lent areas hold other numbers than any that the call writes
-agrees : Run → Bool
+-- Both whole areas are compared. They are lent full of other numbers than any that the call writes.
+unfoldable pub agrees : Run → Bool
 agrees r =
-    let w = route (r .input) (replicate 200 7) (replicate 50 9) in
-    let s = take (w .answer .sheet-bytes) (w .sheet) in
-    let d = readSheet s in
-    stated (r .numbers) (six (w .answer)) && stated (r .sheet) s && stated (r .places) (take (d .count) (d .places))
+    let w = route (r .input) (replicate (r .words) 7) (replicate (r .bytes) 9) in
+    same (seven (w .answer)) (r .numbers)
+    && same (w .work) (over (replicate (r .zeros) 0) 7 (r .words))
+    && same (w .sheet) (over (r .sheet) 9 (r .bytes))
 
-agree : List Run → Bool
+unfoldable pub agree : List Run → Bool
 agree [] = true
 agree (r ∷ rs) = agrees r && agree rs
 
-numbers : (number cost limit floor expansions queries : ℕ) → Option (List ℕ)
-numbers n c l f e q = some (n ∷ c ∷ l ∷ f ∷ e ∷ q ∷ [])
+-- on 200 words and 50 bytes
+unfoldable pub run : (input numbers : List ℕ) (zeros : ℕ) (sheet : List ℕ) → Run
+run input numbers zeros sheet = record { input = input; words = 200; bytes = 50; numbers = numbers; zeros = zeros; sheet = sheet }
 
-noRouteFrom0 : Option (List ℕ)
-noRouteFrom0 = some (0x02 ∷ 0x00 ∷ 0x12 ∷ 0x00 ∷ 0x00 ∷ 0x00 ∷ [])
+numbers : (number cost limit floor expansions queries bytes : ℕ) → List ℕ
+numbers n c l f e q b = n ∷ c ∷ l ∷ f ∷ e ∷ q ∷ b ∷ []
 
-run : List ℕ → Option (List ℕ) → Option (List ℕ) → Option (List ℕ) → Run
-run input numbers places sheet = record { input = input; numbers = numbers; places = places; sheet = sheet }
+-- the sheets, byte for byte
+sheetA : List ℕ
+sheetA =
+    0x0E ∷ 0x00 ∷ 0x11 ∷ 0x00 ∷ 0x05 ∷ 0x00 ∷ 0x00 ∷ 0x00 ∷ 0x04 ∷ 0x00 ∷ 0x00 ∷ 0x00 ∷ 0x01 ∷ 0x00 ∷ 0x02 ∷ 0x00 ∷ 0x03 ∷ 0x00 ∷ []
 
-abbrev unstated : Option (List ℕ)
-unstated = none
+sheet5 : List ℕ
+sheet5 = 0x0C ∷ 0x00 ∷ 0x11 ∷ 0x00 ∷ 0x06 ∷ 0x00 ∷ 0x00 ∷ 0x00 ∷ 0x03 ∷ 0x00 ∷ 0x00 ∷ 0x00 ∷ 0x02 ∷ 0x00 ∷ 0x03 ∷ 0x00 ∷ []
 
+sheet6 : List ℕ
+sheet6 = 0x08 ∷ 0x00 ∷ 0x11 ∷ 0x00 ∷ 0x00 ∷ 0x00 ∷ 0x00 ∷ 0x00 ∷ 0x01 ∷ 0x00 ∷ 0x03 ∷ 0x00 ∷ []
+
+noRouteFrom0 : List ℕ
+noRouteFrom0 = 0x02 ∷ 0x00 ∷ 0x12 ∷ 0x00 ∷ 0x00 ∷ 0x00 ∷ []
+
+unfoldable pub sheet9 : List ℕ
+sheet9 = 0x0C ∷ 0x00 ∷ 0x11 ∷ 0x00 ∷ 0x02 ∷ 0x00 ∷ 0x00 ∷ 0x00 ∷ 0x03 ∷ 0x00 ∷ 0x00 ∷ 0x00 ∷ 0x01 ∷ 0x00 ∷ 0x03 ∷ 0x00 ∷ []
+
+sheet10 : List ℕ
+sheet10 =
+    0x0E ∷ 0x00 ∷ 0x11 ∷ 0x00 ∷ 0x03 ∷ 0x00 ∷ 0x00 ∷ 0x00 ∷ 0x04 ∷ 0x00 ∷ 0x00 ∷ 0x00 ∷ 0x02 ∷ 0x00 ∷ 0x03 ∷ 0x00 ∷ 0x05 ∷ 0x00 ∷ []
+
+-- Document 01 states the first six numbers of P1 to P9, the places, and the sheets of P7 to P9. Bytes is the sheet's length; the other numbers
+-- of P10, and those of the runs with several goals below, are those of tests/reference.py.
 runs : List Run
 runs =
     -- P1 to P4: map A under four allowances
-    run (mapA 4 ++ putJob 0 944 (3 ∷ [])) (numbers 0 5 10 0 16 10) (some (0 ∷ 1 ∷ 2 ∷ 3 ∷ [])) unstated
-    ∷ run (mapA 4 ++ putJob 0 16 (3 ∷ [])) (numbers 0 5 10 0 16 10) (some (0 ∷ 1 ∷ 2 ∷ 3 ∷ [])) unstated
-    ∷ run (mapA 4 ++ putJob 0 15 (3 ∷ [])) (numbers 16 0 0 5 15 10) unstated unstated
-    ∷ run (mapA 4 ++ putJob 0 0 (3 ∷ [])) (numbers 16 0 0 0 0 1) unstated unstated
+    run (mapA 4 ++ putJob 0 944 (3 ∷ [])) (numbers 0 5 10 0 16 10 18) 72 sheetA
+    ∷ run (mapA 4 ++ putJob 0 16 (3 ∷ [])) (numbers 0 5 10 0 16 10 18) 72 sheetA
+    ∷ run (mapA 4 ++ putJob 0 15 (3 ∷ [])) (numbers 16 0 0 5 15 10 0) 72 []
+    ∷ run (mapA 4 ++ putJob 0 0 (3 ∷ [])) (numbers 16 0 0 0 0 1 0) 72 []
     -- P5: an estimate that overstates
-    ∷ run (mapA 9 ++ putJob 0 944 (3 ∷ [])) (numbers 0 6 8 0 7 6) (some (0 ∷ 2 ∷ 3 ∷ [])) unstated
+    ∷ run (mapA 9 ++ putJob 0 944 (3 ∷ [])) (numbers 0 6 8 0 7 6 16) 72 sheet5
     -- P6: the start is the goal
-    ∷ run (mapA 4 ++ putJob 3 944 (3 ∷ [])) (numbers 0 0 0 0 0 1) (some (3 ∷ [])) unstated
+    ∷ run (mapA 4 ++ putJob 3 944 (3 ∷ [])) (numbers 0 0 0 0 0 1 12) 72 sheet6
     -- P7 and P8: no route
-    ∷ run (pair ++ putJob 0 1 (1 ∷ [])) (numbers 17 0 0 0 1 1) unstated noRouteFrom0
-    ∷ run (pair ++ putEstimate 0 7 ++ putJob 0 1 (1 ∷ [])) (numbers 17 0 14 0 1 1) unstated noRouteFrom0
-    -- P9: two equal ways, and the sheet's bytes
-    ∷ run (square ++ putJob 0 944 (3 ∷ [])) (numbers 0 2 2 0 10 6) (some (0 ∷ 1 ∷ 3 ∷ []))
-    (some (0x0C ∷ 0x00 ∷ 0x11 ∷ 0x00 ∷ 0x02 ∷ 0x00 ∷ 0x00 ∷ 0x00 ∷ 0x03 ∷ 0x00 ∷ 0x00 ∷ 0x00 ∷ 0x01 ∷ 0x00 ∷ 0x03 ∷ 0x00 ∷ []))
+    ∷ run (pair ++ putJob 0 1 (1 ∷ [])) (numbers 17 0 0 0 1 1 6) 34 noRouteFrom0
+    ∷ run (pair ++ putEstimate 0 7 ++ putJob 0 1 (1 ∷ [])) (numbers 17 0 14 0 1 1 6) 34 noRouteFrom0
+    -- P9: two equal ways
+    ∷ run (square ++ putJob 0 944 (3 ∷ [])) (numbers 0 2 2 0 10 6 16) 72 sheet9
     -- P10: the comparison goes from the goal back
-    ∷ run (hexagon ++ putJob 0 1416 (5 ∷ [])) unstated (some (0 ∷ 2 ∷ 3 ∷ 5 ∷ [])) unstated
+    ∷ run (hexagon ++ putJob 0 1416 (5 ∷ [])) (numbers 0 3 4 0 19 8 18) 108 sheet10
     ∷ []
 
 runs-agree : agree runs ≡ true
-unfolding compute mapA pair square hexagon same stated six agrees agree numbers noRouteFrom0 run runs
+unfolding
+    compute
+    mapA pair square hexagon
+    same seven over agrees agree run numbers
+    sheetA sheet5 sheet6 noRouteFrom0 sheet9 sheet10 runs
 runs-agree = refl
+
+toPlace2 : List ℕ
+toPlace2 = 0x0A ∷ 0x00 ∷ 0x11 ∷ 0x00 ∷ 0x02 ∷ 0x00 ∷ 0x00 ∷ 0x00 ∷ 0x02 ∷ 0x00 ∷ 0x00 ∷ 0x00 ∷ 0x02 ∷ 0x00 ∷ []
+
+-- by places 0, 2 and 3 at cost 2
+toPlace3 : List ℕ
+toPlace3 = 0x0C ∷ 0x00 ∷ 0x11 ∷ 0x00 ∷ 0x02 ∷ 0x00 ∷ 0x00 ∷ 0x00 ∷ 0x03 ∷ 0x00 ∷ 0x00 ∷ 0x00 ∷ 0x02 ∷ 0x00 ∷ 0x03 ∷ 0x00 ∷ []
 
 -- several goals: of equal ones the lowest-numbered, and the first in order, which is not the first generated
 goalRuns : List Run
 goalRuns =
-    run (star ++ putJob 0 944 (2 ∷ 3 ∷ [])) (numbers 0 2 4 0 6 5) (some (0 ∷ 2 ∷ [])) unstated
-    ∷ run (detour ++ putJob 0 944 (1 ∷ 3 ∷ [])) (numbers 0 2 2 0 5 4) (some (0 ∷ 2 ∷ 3 ∷ [])) unstated
+    run (star ++ putJob 0 944 (2 ∷ 3 ∷ [])) (numbers 0 2 4 0 6 5 14) 70 toPlace2
+    ∷ run (detour ++ putJob 0 944 (1 ∷ 3 ∷ [])) (numbers 0 2 2 0 5 4 16) 70 toPlace3
     ∷ []
 
 goal-runs-agree : agree goalRuns ≡ true
-unfolding compute star detour same stated six agrees agree numbers run goalRuns
+unfolding compute star detour same seven over agrees agree run numbers toPlace2 toPlace3 goalRuns
 goal-runs-agree = refl

@@ -1,4 +1,4 @@
--- A call and what it comes to, in short words for the demands.
+-- A call, a program that answers calls, and what it writes, in short words for the demands.
 use mathlib.Core.Path.{_≡_}
 use mathlib.Core.List.{List}
 use Prim.Native.Nat.{ℕ}
@@ -10,7 +10,7 @@ use Rattle.model.specs.Input.{problemOf, allowanceOf}
 use Rattle.model.specs.Refusals.{Accepted}
 use Rattle.model.specs.Answer.{Result, route}
 
--- the input's bytes, and what the lent areas hold
+-- what a call is given: the input's bytes, and what the lent areas hold
 pub record Call : Type 0 where
   pub input : List ℕ
   pub work : List ℕ
@@ -18,9 +18,6 @@ pub record Call : Type 0 where
   pub bytes : Bytes input
 
 module _ (c : Call) where
-  abbrev pub result : Result
-  result = route (c .input) (c .work) (c .sheet)
-
   -- the problem and the allowance that the input states
   abbrev pub problem : Problem
   problem = problemOf (frame (c .input) .records)
@@ -28,16 +25,36 @@ module _ (c : Call) where
   abbrev pub allowance : ℕ
   allowance = allowanceOf (frame (c .input) .records)
 
-  -- the sheet: the first `sheet bytes` bytes of the sheet area after the call
-  abbrev pub written : List ℕ
-  written = take (result .answer .sheet-bytes) (result .sheet)
-
   abbrev pub IsAccepted : Type 0
   IsAccepted = Accepted (c .input) (length (c .work)) (length (c .sheet))
 
--- the bytes b are the sheet that an accepted call writes for this job
-pub record IsWritten (job b : List ℕ) : Type 0 where
+  -- what the definition makes of it
+  abbrev pub result : Result
+  result = route (c .input) (c .work) (c .sheet)
+
+-- the sheet: the first `sheet bytes` bytes of the sheet area after the call
+abbrev pub written : Result → List ℕ
+written r = take (r .answer .sheet-bytes) (r .sheet)
+
+-- A program, by its promise: the results that a call may come to.
+abbrev pub Program : Type 1
+Program = Call → Result → Type 0
+
+-- the definition as a program
+abbrev pub Defined : Program
+Defined c r = r ≡ result c
+
+-- the program does what the definition says, and nothing else
+pub record Keeps (P : Program) : Type 0 where
+  pub gives : (c : Call) → P c (result c)
+  pub only : (c : Call) (r : Result) → P c r → r ≡ result c
+
+-- the bytes b are the sheet that the program writes for this job, which is accepted, with the number n in its answer
+pub record Writes (P : Program) (job : List ℕ) (n : ℕ) (b : List ℕ) : Type 0 where
   pub call : Call
+  pub after : Result
+  pub comes : P call after
   pub is-job : call .input ≡ job
   pub accepted : IsAccepted call
-  pub on-sheet : written call ≡ b
+  pub number : after .answer .number ≡ n
+  pub on-sheet : written after ≡ b

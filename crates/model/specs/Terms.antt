@@ -4,10 +4,11 @@ use mathlib.Core.List.{List, [], _∷_, _++_, List·Memᴰ}
 use mathlib.Core.Option.{Option, none, some}
 use Prim.Native.Nat.{ℕ, _+_, _*_, _≤_, _<_}
 use lib.ListN.{length}
+use Rattle.model.specs.Limits.{maxEstimate}
 use Rattle.model.specs.Problem.{Problem, Arc, IsArc, IsGoal}
 use Rattle.model.specs.Paths.{Walk, places}
 use Rattle.model.specs.Costs.{Table, costAt, table}
-use Rattle.model.specs.Query.{Outcome, ended, over, found, nothing, query}
+use Rattle.model.specs.Query.{Key, firstGoal, Outcome, ended, over, found, nothing, query}
 use Rattle.model.specs.Rounds.{Round, Step, ask, next, total}
 
 -- an entry of at most d
@@ -80,3 +81,22 @@ pub record SameProblem (p q : Problem) : Type 0 where
   pub arc-from : (a : Arc) → IsArc q a → IsArc p a
   pub goal-to : (g : ℕ) → IsGoal p g → IsGoal q g
   pub goal-from : (g : ℕ) → IsGoal q g → IsGoal p g
+
+-- f is 0 at the goals and falls along no arc by more than its cost; the field's word for such estimates is consistent
+pub record Consistent (p : Problem) (f : ℕ → ℕ) : Type 0 where
+  pub at-goals : (g : ℕ) → IsGoal p g → f g ≡ 0
+  pub along-arcs : (a : Arc) → IsArc p a → f (a .from) ≤ a .cost + f (a .to)
+
+-- the problem from another start, with no estimates
+unfoldable pub fromPlace : Problem → ℕ → Problem
+fromPlace p v =
+    record { places = p .places; arcs = p .arcs; estimate = λ u. 0; start = v; goals = p .goals; growth = p .growth }
+
+unfoldable pub goalCost : Option Key → ℕ
+goalCost none = maxEstimate
+goalCost (some g) = g .cost
+
+-- The least cost from v to a goal, by the table of costs; the highest estimate, which in a valid problem is above all of them, where no goal
+-- can be reached.
+unfoldable pub costToGoal : Problem → ℕ → ℕ
+costToGoal p v = let q = fromPlace p v in goalCost (firstGoal q (table q maxEstimate))

@@ -6,7 +6,7 @@ use Prim.Native.Nat.{ℕ, zero, suc, _+_, _-_, _*_, _%_, _<_, _≤_, min}
 use native.Mathlib.Decide.{ℕ-discrete, decLt}
 use native.Mathlib.Omega.{arith}
 use Rattle.open_list.specs.Tree.{Right, AllRight, least8, firstChild, parent}
-use Rattle.open_list.specs.Loops.{Falling, Rising}
+use Rattle.open_list.specs.Loops.{Mending}
 use Rattle.open_list.proofs.Eight.{OneOf, le8, one8, same8, fall8}
 
 -- g is f, but for i
@@ -17,62 +17,39 @@ SameBut f g i = (j : ℕ) → j ≢ i → g j ≡ f j
 apart : (f g : ℕ → ℕ) (i j : ℕ) → SameBut f g i → j ≢ i → ((k : ℕ) → k < 8 → firstChild j + k ≢ i) → Right f j → Right g j
 apart f g i j o n h r = o j n ∙ r ∙ sym (same8 f g (firstChild j) (λ k l. o (firstChild j + k) (h k l)))
 
--- ---- i falls to y
-module _ (m : ℕ) (f g : ℕ → ℕ) (i y : ℕ) (o : SameBut f g i) where
-  parent-next : 0 < i → parent i < m → Right f (parent i) → g i ≡ min (f i) y → ((j : ℕ) → j < m → j ≢ parent i → Right g j)
-      → Falling m g (parent i) y
-  parent-next a l r e s =
-      let q : g (parent i) ≡ f (parent i) = o (parent i) (omega arith) in
-      record { low = l; rest = s; here = omega (arith, fall8 f g i (firstChild (parent i)) y o e (omega arith) (omega arith)) }
-
+-- ---- i changes: its parent is next, and is to get y
+module _ (m : ℕ) (f g : ℕ → ℕ) (i : ℕ) (o : SameBut f g i) where
   -- a leaf
-  pub leaf-falls : m ≤ i → i < 8 * m + 1 → 0 < m → AllRight m f → g i ≡ min (f i) y → Falling m g (parent i) y
-  leaf-falls a b z r e =
-      parent-next (omega arith) (omega arith) (r (parent i) (omega arith)) e
-      (λ j l n. apart f g i j o (omega arith) (λ k h. omega arith) (r j l))
+  pub leaf-changes : m ≤ i → i < 8 * m + 1 → 0 < m → AllRight m f → (y : ℕ) → least8 g (firstChild (parent i)) ≡ y → Mending m g (parent i) y
+  leaf-changes a b z r y u = record { low = omega arith; rest = λ j l n. apart f g i j o (omega arith) (λ k h. omega arith) (r j l); here = u }
 
   -- the node that was to be mended
-  mended : Falling m f i y → y ≤ f i → g i ≡ y → Right g i
-  mended v h e =
-      let s : least8 g (firstChild i) ≡ least8 f (firstChild i) = same8 f g (firstChild i) (λ k l. o (firstChild i + k) (omega arith)) in
-      omega (arith, v .here)
+  module _ (x : ℕ) (v : Mending m f i x) (e : g i ≡ x) where
+    others : (j : ℕ) → j < m → (0 < i → j ≢ parent i) → Dec (j ≡ i) → Right g j
+    others j l n (yes q) = rw q (e ∙ sym (v .here) ∙ sym (same8 f g (firstChild i) (λ k h. o (firstChild i + k) (omega arith))))
+    others j l n (no q) = apart f g i j o q (λ k a b. n (omega arith) (omega arith)) (v .rest j l q)
 
-  others : Falling m f i y → y ≤ f i → g i ≡ y → (j : ℕ) → j < m → (0 < i → j ≢ parent i) → Dec (j ≡ i) → Right g j
-  others v h e j l n (yes q) = rw q (mended v h e)
-  others v h e j l n (no q) = apart f g i j o q (λ k a b. n (omega arith) (omega arith)) (v .rest j l q)
+    pub node-changes : 0 < i → (y : ℕ) → least8 g (firstChild (parent i)) ≡ y → Mending m g (parent i) y
+    node-changes a y u =
+        let l : i < m = v .low in
+        record { low = omega arith; rest = λ j b n. others j b (λ _. n) (ℕ-discrete j i); here = u }
 
-  pub node-falls : Falling m f i y → y ≤ f i → g i ≡ y → 0 < i → Falling m g (parent i) y
-  node-falls v h e a =
-      let l : i < m = v .low in
-      parent-next a (omega arith) (v .rest (parent i) (omega arith) (omega arith)) (omega arith) (λ j b n. others v h e j b (λ _. n) (ℕ-discrete j i))
+    pub root-changes : i ≡ 0 → AllRight m g
+    root-changes z j l = others j l (λ a. absurd (omega arith)) (ℕ-discrete j i)
 
-  pub root-falls : Falling m f i y → y ≤ f i → g i ≡ y → i ≡ 0 → AllRight m g
-  root-falls v h e z j l = others v h e j l (λ a. absurd (omega arith)) (ℕ-discrete j i)
-
--- the node is at most y as it is: nothing above it changes
-pub fall-stops : (m : ℕ) (f : ℕ → ℕ) (i y : ℕ) → Falling m f i y → f i ≤ y → AllRight m f
-fall-stops m f i y v h j l = by (ℕ-discrete j i)
+-- the node is right as it is: nothing above it changes
+pub right-already : (m : ℕ) (f : ℕ → ℕ) (i x : ℕ) → Mending m f i x → f i ≡ x → AllRight m f
+right-already m f i x v e j l = by (ℕ-discrete j i)
   where
     by : Dec (j ≡ i) → Right f j
-    by (yes q) = rw q (omega (arith, v .here))
+    by (yes q) = rw q (e ∙ sym (v .here))
     by (no q) = v .rest j l q
 
--- ---- i rises
-pub leaf-rises : (m : ℕ) (f g : ℕ → ℕ) (i : ℕ) → SameBut f g i → m ≤ i → 0 < m → AllRight m f → Rising m g i
-leaf-rises m f g i o a z r = record { rest = λ j l n. apart f g i j o (omega arith) (λ k h b. n (omega arith) (omega arith)) (r j l) }
-
--- its parent q is made right
-pub parent-mended : (m : ℕ) (f g : ℕ → ℕ) (i q : ℕ) → q ≡ parent i → SameBut f g q → Rising m f i → g q ≡ least8 f (firstChild q) → Rising m g q
-parent-mended m f g i q z o v e = record { rest = λ j l n. right j l n (ℕ-discrete j q) }
-  where
-    right : (j : ℕ) → j < m → (0 < q → j ≢ parent q) → Dec (j ≡ q) → Right g j
-    right j l n (yes p) =
-        let s : least8 g (firstChild q) ≡ least8 f (firstChild q) = same8 f g (firstChild q) (λ k h. o (firstChild q + k) (omega arith)) in
-        rw p (e ∙ sym s)
-    right j l n (no p) = apart f g q j o p (λ k h b. n (omega arith) (omega arith)) (v .rest j l (λ _ b. p (b ∙ sym z)))
-
-pub root-mended : (m : ℕ) (f : ℕ → ℕ) (i : ℕ) → Rising m f i → i ≡ 0 → AllRight m f
-root-mended m f i v z j l = v .rest j l (λ a. absurd (omega arith))
+-- i falls to y, and so does what its parent is to get
+pub parent-falls : (f g : ℕ → ℕ) (i y : ℕ) → SameBut f g i → 0 < i → g i ≡ min (f i) y → Right f (parent i)
+    → least8 g (firstChild (parent i)) ≡ min (g (parent i)) y
+parent-falls f g i y o a e r =
+    omega (arith, o (parent i) (omega arith), fall8 f g i (firstChild (parent i)) y o e (omega arith) (omega arith))
 
 -- ---- the root is at most every other, and is one of the leaves
 module _ (m : ℕ) (f : ℕ → ℕ) (r : AllRight m f) where

@@ -13,6 +13,29 @@ use Rattle.open_list.specs.Entry.{IsEntry, placeOf, keyOf, wordEnd, noKe
 use Rattle.open_list.specs.Hand.{Held, HandPut, withHand}
 use Rattle.open_list.specs.Keys.{Least, emptyHand}
 
+-- what stands at another place than the hand's stands in the list
+pub elsewhere : (ks : List ℕ) (h q : ℕ) → q ≢ placeOf h → getD (withHand ks h) q 0 ≡ getD ks q 0
+unfolding withHand
+elsewhere ks h q n = getD-set-other ks (placeOf h) q (keyOf h) 0 n
+
+-- ---- what is in hand has a key, and its place is in the list
+module _ (ks : List ℕ) (h : ℕ) (g : Held ks h) where
+  pub in-list : keyOf h ≢ noKey → placeOf h < length ks
+  in-list n = by (decLt (placeOf h) (length ks))
+    where
+      by : Dec (placeOf h < length ks) → placeOf h < length ks
+      by (yes u) = u
+      by (no u) = absurd (n (g .idle (omega arith)))
+
+  -- a hand without a key adds nothing to the list
+  pub idle-keys : keyOf h ≡ noKey → withHand ks h ≡ ks
+  unfolding withHand
+  idle-keys e = set-out ks (placeOf h) (keyOf h) (by (decLt (placeOf h) (length ks)))
+    where
+      by : Dec (placeOf h < length ks) → length ks ≤ placeOf h
+      by (yes u) = absurd (omega (arith, g .some u))
+      by (no u) = omega arith
+
 -- ---- the hand takes place p
 module _ (ks : List ℕ) (p key r : ℕ) (l : p < length ks) (k : key < noKey) (i : IsEntry p key r) where
   takes : getD ks p 0 ≡ noKey → Held ks r
@@ -29,16 +52,14 @@ module _ (ks : List ℕ) (p key r : ℕ) (l : p < length ks) (k : key < noKey) (
         keys-set = rw (i .place-is, i .key-is) (sym (ap (λ (x : ℕ). set (set ks x (keyOf h)) p key) e ∙ set-set ks p (keyOf h) key));
       }
 
-  -- nothing was in hand, and the list has no key for p
-  pub takes-first : (h : ℕ) → Held ks h → keyOf h ≡ noKey → getD ks p 0 ≡ noKey → HandPut p key ks h ks r
+  -- what was in hand gives way, and is in the list now; the list had no key for p
+  pub takes-over : (ks₀ : List ℕ) (h : ℕ) → ks ≡ withHand ks₀ h → placeOf h ≢ p → getD ks₀ p 0 ≡ noKey → HandPut p key ks₀ h ks r
   unfolding withHand
-  takes-first h g e f =
-      let alone : withHand ks h ≡ ks = set-out ks (placeOf h) (keyOf h) (beyond (decLt (placeOf h) (length ks))) in
-      record { held = takes f; keys-set = rw (i .place-is, i .key-is) (sym (ap (λ (x : List ℕ). set x p key) alone)) }
-    where
-      beyond : Dec (placeOf h < length ks) → length ks ≤ placeOf h
-      beyond (yes u) = absurd (omega (arith, g .some u))
-      beyond (no u) = omega arith
+  takes-over ks₀ h e n f =
+      record {
+        held = takes (ap (λ (x : List ℕ). getD x p 0) e ∙ elsewhere ks₀ h p (λ u. n (sym u)) ∙ f);
+        keys-set = rw (i .place-is, i .key-is) (ap (λ (x : List ℕ). set x p key) e);
+      }
 
 -- ---- the list changes at p, which is not in hand
 pub list-changes : (ks ks' : List ℕ) (p key h : ℕ) → Held ks h → placeOf h ≢ p → ks' ≡ set ks p key → HandPut p key ks h ks' h
@@ -54,11 +75,6 @@ list-changes ks ks' p key h g n e =
       keys-set = ap (λ (x : List ℕ). set x (placeOf h) (keyOf h)) e ∙ set-comm ks p (placeOf h) key (keyOf h) (λ e. n (sym e));
     }
 
--- what stands at another place than the hand's stands in the list
-pub elsewhere : (ks : List ℕ) (h q : ℕ) → q ≢ placeOf h → getD (withHand ks h) q 0 ≡ getD ks q 0
-unfolding withHand
-elsewhere ks h q n = getD-set-other ks (placeOf h) q (keyOf h) 0 n
-
 -- ---- an empty hand
 module _ (ks : List ℕ) (few : length ks < wordEnd) where
   pub empty-held : Held ks emptyHand
@@ -66,8 +82,8 @@ module _ (ks : List ℕ) (few : length ks < wordEnd) where
   empty-held = record { free = λ u. absurd (omega arith); some = λ u. absurd (omega arith); idle = λ u. omega arith }
 
   pub empty-keys : withHand ks emptyHand ≡ ks
-  unfolding withHand emptyHand
-  empty-keys = set-out ks (placeOf emptyHand) (keyOf emptyHand) (omega arith)
+  unfolding emptyHand
+  empty-keys = idle-keys ks emptyHand empty-held (omega arith)
 
   -- what was in hand is let go
   pub lets-go : (p h : ℕ) → Held ks h → p < length ks → placeOf h ≡ p → HandPut p noKey ks h ks emptyHand
@@ -93,22 +109,18 @@ module _ (ks : List ℕ) (h b : ℕ) (g : Held ks h) (f : Least ks (placeOf b) (
   both k q a c l (yes e) = rw e (omega (arith, here (omega arith)))
   both k q a c l (no n) = omega (arith, elsewhere ks h q n, f .least q l)
 
-  in-list : keyOf h < noKey → Dec (placeOf h < length ks) → placeOf h < length ks
-  in-list a (yes u) = u
-  in-list a (no u) = absurd (omega (arith, g .idle (omega arith)))
-
   pub hand-first : h < b → Least (withHand ks h) (placeOf h) (keyOf h)
   hand-first c =
       record {
         least = λ q l. both (keyOf h) q (omega arith) (omega arith) (omega (arith, size)) (ℕ-discrete q (placeOf h));
-        place = λ a. omega (arith, size, in-list a (decLt (placeOf h) (length ks)));
-        key = λ a. here (in-list a (decLt (placeOf h) (length ks)));
+        place = λ a. omega (arith, size, in-list ks h g (omega arith));
+        key = λ a. here (in-list ks h g (omega arith));
         before = λ q a l. lowest q a l (ℕ-discrete (keyOf h) (keyOf b));
       }
     where
       lowest : (q : ℕ) → keyOf h < noKey → q < placeOf h → Dec (keyOf h ≡ keyOf b) → keyOf h < getD (withHand ks h) q 0
       lowest q a l (yes e) = omega (arith, elsewhere ks h q (omega arith), f .before q (omega arith) (omega arith))
-      lowest q a l (no n) = omega (arith, elsewhere ks h q (omega arith), f .least q (omega (arith, in-list a (decLt (placeOf h) (length ks)))))
+      lowest q a l (no n) = omega (arith, elsewhere ks h q (omega arith), f .least q (omega (arith, in-list ks h g (omega arith))))
 
   pub list-first : b ≤ h → Least (withHand ks h) (placeOf b) (keyOf b)
   list-first c =

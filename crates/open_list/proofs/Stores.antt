@@ -22,7 +22,8 @@ pub at-leaf : (m : ℕ) (t : List ℕ) (p : ℕ) → entryAt m t (m + p) ≡ min
 unfolding entryAt
 at-leaf m t p =
     let e : m + p - m ≡ p = omega arith in
-    let q : ite (decLt (m + p) m) (nodeEntry t (m + p)) (leafEntry m t (m + p - m)) ≡ leafEntry m t (m + p - m) = if-neg (decLt (m + p) m) (λ h. omega arith) (nodeEntry t (m + p)) (leafEntry m t (m + p - m)) in
+    let q : ite (decLt (m + p) m) (nodeEntry t (m + p)) (leafEntry m t (m + p - m)) ≡ leafEntry m t (m + p - m)
+    = if-neg (decLt (m + p) m) (λ h. omega arith) (nodeEntry t (m + p)) (leafEntry m t (m + p - m)) in
     ap (λ (x : ℕ). min x noEntry) (q ∙ ap (leafEntry m t) e)
 
 pub keys-at : (m p : ℕ) (t : List ℕ) → getD (treeKeys m t) p 0 ≡ getD t (m + m + p) 0
@@ -42,11 +43,15 @@ unchanged m t u j a b (no h) =
     rw (← e) (at-leaf m u (j - m) ∙ ap (λ (x : ℕ). min x noEntry) (b (omega arith)) ∙ sym (at-leaf m t (j - m)))
 
 -- ---- an entry is put down at a node
-module _ (m : ℕ) (t : List ℕ) (i x : ℕ) (s : Shape m t) (l : i < m) where
-  pub store-shape : Shape m (stored t i x)
-  store-shape = record { nodes = s .nodes; len = simp length-set (s .len) }
+-- u is t, but that node i has the entry x
+pub record NodePut (m : ℕ) (t : List ℕ) (i x : ℕ) (u : List ℕ) : Type 0 where
+  pub shape : Shape m u
+  pub here : entryAt m u i ≡ min x noEntry
+  pub others : SameBut (entryAt m t) (entryAt m u) i
+  pub keys : treeKeys m u ≡ treeKeys m t
 
-  pub store-here : entryAt m (stored t i x) i ≡ min x noEntry
+module _ (m : ℕ) (t : List ℕ) (i x : ℕ) (s : Shape m t) (l : i < m) where
+  store-here : entryAt m (stored t i x) i ≡ min x noEntry
   unfolding nodeEntry
   store-here =
       let n : length t ≡ 9 * m + 1 = s .len in
@@ -59,16 +64,21 @@ module _ (m : ℕ) (t : List ℕ) (i x : ℕ) (s : Shape m t) (l : i < m) where
   far : (w : ℕ) → w ≢ i + i → w ≢ i + i + 1 → getD (stored t i x) w 0 ≡ getD t w 0
   far w a b = getD-set-other (set t (i + i) (placeOf x)) (i + i + 1) w (keyOf x) 0 b ∙ getD-set-other t (i + i) w (placeOf x) 0 a
 
-  pub store-other : SameBut (entryAt m t) (entryAt m (stored t i x)) i
+  store-other : SameBut (entryAt m t) (entryAt m (stored t i x)) i
   unfolding nodeEntry leafEntry
   store-other j h =
       unchanged m t (stored t i x) j (λ q. omega (arith, far (j + j) (omega arith) (omega arith), far (j + j + 1) (omega arith) (omega arith)))
       (λ q. omega (arith, far (m + m + (j - m)) (omega arith) (omega arith))) (decLt j m)
 
-  pub store-keys : treeKeys m (stored t i x) ≡ treeKeys m t
+  store-keys : treeKeys m (stored t i x) ≡ treeKeys m t
   unfolding treeKeys
   store-keys =
       drop-set-lt (m + m) (set t (i + i) (placeOf x)) (i + i + 1) (keyOf x) (omega arith) ∙ drop-set-lt (m + m) t (i + i) (placeOf x) (omega arith)
+
+  pub node-put : (u : List ℕ) → u ≡ stored t i x → NodePut m t i x u
+  node-put u e =
+      let shape : Shape m (stored t i x) = record { nodes = s .nodes; len = simp length-set (s .len) } in
+      rw e (record { shape = shape; here = store-here; others = store-other; keys = store-keys })
 
 -- ---- a key is put down
 module _ (m : ℕ) (t : List ℕ) (p key : ℕ) (s : Shape m t) (l : p < 7 * m + 1) where

@@ -7,7 +7,7 @@ use Prim.Native.Nat.{ℕ, _+_, _*_, _<_, _≤_}
 use native.Mathlib.Omega.{arith}
 use lib.ListN.{length, getD}
 use Rattle.open_list.specs.Entry.{IsEntry, placeOf, keyOf, wordEnd, noKey}
-use Rattle.open_list.specs.Hand.{Held, HandPut}
+use Rattle.open_list.specs.Hand.{Held, HandPut, withHand}
 use Rattle.open_list.specs.Keys.{OpenList, Least, Lowers, Closes, Put, Cleared, keysOf, emptyHand}
 use Rattle.open_list.specs.Tree.{Tournament, TreePlace, TreeLowers, TreePut, TreeCleared, treeKeys}
 use Rattle.open_list.proofs.Hand as hand
@@ -38,22 +38,39 @@ put : (m p key h r : ℕ) (t₀ t : List ℕ) → Tournament m t → HandPut p k
 unfolding OpenList keysOf
 put m p key h r t₀ t w v = record { list = record { tree = w; held = v .held }; keys-set = v .keys-set }
 
+-- ---- put_down: the tree gets what is in hand
+module _ (m h : ℕ) (t : List ℕ) (o : OpenList m h t) where
+  -- nothing is in hand: the tree as it is
+  pub idle-put : keyOf h ≡ noKey → TreePut m (placeOf h) (keyOf h) t t
+  unfolding withHand
+  idle-put e = record { tree = tree-of m h t o; keys-set = sym (hand.idle-keys (treeKeys m t) h (held-of m h t o) e) }
+
+  -- the tree has no key for what is in hand
+  pub hand-lowers : keyOf h ≢ noKey → TreeLowers m (placeOf h) (keyOf h) t
+  hand-lowers n =
+      let held = held-of m h t o in
+      let inside : placeOf h < length (treeKeys m t) = hand.in-list (treeKeys m t) h held n in
+      let shape = tree-of m h t o .shape in
+      record {
+        tree = tree-of m h t o;
+        place-in = omega (arith, keys-length m t shape);
+        below = omega (arith, held .free inside, held .some inside);
+      }
+
 -- ---- lower: the hand takes the place
 module _ (m p key h r : ℕ) (t : List ℕ) (w : Lowers m h p key t) (i : IsEntry p key r) where
-  tree : Tournament m t
-  tree = tree-of m h t (w .list)
-
-  held : Held (treeKeys m t) h
-  held = held-of m h t (w .list)
-
-  inside : p < length (treeKeys m t)
-  inside = place-in-tree m p t tree (w .place-in)
-
   pub takes-again : placeOf h ≡ p → Put m p key h t r t
-  takes-again e = put m p key h r t t tree (hand.takes-again (treeKeys m t) p key r inside (w .some) i h held e)
+  takes-again e =
+      let tree = tree-of m h t (w .list) in
+      let inside = place-in-tree m p t tree (w .place-in) in
+      put m p key h r t t tree (hand.takes-again (treeKeys m t) p key r inside (w .some) i h (held-of m h t (w .list)) e)
 
-  pub takes-first : keyOf h ≡ noKey → getD (treeKeys m t) p 0 ≡ noKey → Put m p key h t r t
-  takes-first e f = put m p key h r t t tree (hand.takes-first (treeKeys m t) p key r inside (w .some) i h held e f)
+  -- what was in hand is in the tree u now
+  pub takes-over : (u : List ℕ) → TreePut m (placeOf h) (keyOf h) t u → placeOf h ≢ p → getD (treeKeys m t) p 0 ≡ noKey → Put m p key h t r u
+  unfolding withHand
+  takes-over u v n f =
+      let inside = place-in-tree m p u (v .tree) (w .place-in) in
+      put m p key h r t u (v .tree) (hand.takes-over (treeKeys m u) p key r inside (w .some) i (treeKeys m t) h (v .keys-set) n f)
 
 -- ---- lower and close: the place is not in hand
 pub tree-lowers : (m p key h : ℕ) (t : List ℕ) → Lowers m h p key t → placeOf h ≢ p → TreeLowers m p key t

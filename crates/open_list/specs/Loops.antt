@@ -6,17 +6,13 @@ use Prim.Native.Nat.{ℕ, _<_, _≤_, min}
 use lib.ListN.{length, drop, replicate}
 use Rattle.open_list.specs.Entry.{noKey, noEntry}
 use Rattle.open_list.specs.Size.{Shape}
-use Rattle.open_list.specs.Tree.{Right, treeKeys, entryAt, least8, firstChild, parent}
+use Rattle.open_list.specs.Tree.{Right, treeKeys, entryAt, least8, firstChild}
 
--- a leaf fell to y: all of m nodes are right but i, whose children have fallen
-pub record Falling (m : ℕ) (f : ℕ → ℕ) (i y : ℕ) : Type 0 where
+-- all of m nodes are right but i, whose children's least is y
+pub record Mending (m : ℕ) (f : ℕ → ℕ) (i y : ℕ) : Type 0 where
   pub low : i < m
   pub rest : (j : ℕ) → j < m → j ≢ i → Right f j
-  pub here : least8 f (firstChild i) ≡ min (f i) y
-
--- i rose: all of m nodes are right but the parent of i
-pub record Rising (m : ℕ) (f : ℕ → ℕ) (i : ℕ) : Type 0 where
-  pub rest : (j : ℕ) → j < m → (0 < i → j ≢ parent i) → Right f j
+  pub here : least8 f (firstChild i) ≡ y
 
 -- clear: i words are done, the others are the old ones
 pub record Clearing (old words : List ℕ) (i : ℕ) : Type 0 where
@@ -27,11 +23,10 @@ pub record Clearing (old words : List ℕ) (i : ℕ) : Type 0 where
 pub record Lowering (m : ℕ) (keys words : List ℕ) (x i : ℕ) : Type 0 where
   pub shape : Shape m words
   pub same : treeKeys m words ≡ keys
-  pub fall : Falling m (entryAt m words) i (min x noEntry)
+  pub next : Mending m (entryAt m words) i (min (entryAt m words i) (min x noEntry))
 
--- close: node i is right again, its parent is next
-pub record Closing (m : ℕ) (keys words : List ℕ) (i : ℕ) : Type 0 where
+-- close: node i is to get entry x, and is not stored yet
+pub record Closing (m : ℕ) (keys words : List ℕ) (x i : ℕ) : Type 0 where
   pub shape : Shape m words
   pub same : treeKeys m words ≡ keys
-  pub low : i < m
-  pub rise : Rising m (entryAt m words) i
+  pub next : Mending m (entryAt m words) i (min x noEntry)

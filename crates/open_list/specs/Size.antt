@@ -3,6 +3,7 @@ use mathlib.Core.Path.{_≡_}
 use mathlib.Core.List.{List}
 use Prim.Native.Nat.{ℕ, _+_, _*_, _≤_}
 use lib.ListN.{length}
+use Rattle.model.specs.Limits.{maxPlaces}
 
 -- the numbers of nodes that a tree can have: the children of each node are all nodes or all leaves
 pub record Nodes (m : ℕ) : Type 0 where
@@ -22,7 +23,7 @@ pub record Shape (m : ℕ) (words : List ℕ) : Type 0 where
 -- what `nodes` asks
 pub record Places (places : ℕ) : Type 0 where
   pub some : 1 ≤ places
-  pub few : places ≤ 4096
+  pub few : places ≤ maxPlaces
 
 -- what `nodes` says: m nodes have a key for each place, in at most ten words a place
 pub record Enough (places m : ℕ) : Type 0 where

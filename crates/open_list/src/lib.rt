@@ -5,13 +5,14 @@
 // blocks of eight keys (src/tree.rt), in words that the caller lends, and one place in hand, a number that the caller carries from call
 // to call: the place's key * 2^32 + the place.
 //
-// Each operation but `clear` takes time logarithmic in the number of places; `clear` takes linear time. A place that comes in first of
-// all while the hand is empty is kept in hand, and leaves it again, without a change of the tree: this saves nearly all the work on the
-// tree in searches with few open places.
+// Each operation but `clear` takes time logarithmic in the number of places; `clear` takes linear time. The hand takes a place that comes
+// before the one in hand, which then goes into the tree. A place that is closed while in hand takes no work on the tree: this saves nearly
+// all of it in searches with few open places.
 ghost use mathlib.Core.Path.{_≡_};
 ghost use Rattle.open_list.specs.Entry.{placeOf, keyOf, noKey};
 ghost use Rattle.open_list.specs.Keys.{OpenList, Least, Lowers, Closes, Put, Cleared, keysOf, emptyHand};
 ghost use Rattle.open_list.specs.Size.{Places, Nodes, Enough, wordsOf, Shape};
+ghost use Rattle.open_list.specs.Tree.{TreePut};
 
 mod entry;
 mod tree;
@@ -23,7 +24,7 @@ pub use entry::place_of;
 // The key of a place that is not open.
 pub const NONE: u32 = 0xFFFF_FFFF;
 
-// The hand with nothing in it: no key, and a place beyond all.
+// The entry after all others, with no key and a place beyond all: the hand with nothing in it.
 const EMPTY: u64 = 18446744073709551615;
 
 // How many nodes the tree needs for so many places: one node has 8 keys, and each 8 nodes more have 56 keys more.
@@ -57,6 +58,18 @@ pub fn clear(words: &mut [u32], m: usize)
     tree::clear(words, m);
 }
 
+// What is in hand goes into the tree. The place of an empty hand is beyond all, so that it changes no key.
+fn put_down(words: &mut [u32], m: usize, hand: u64)
+    requires { ⌜ OpenList m hand (now words) ⌝ }
+    ensures { λ _. ⌜ TreePut m (placeOf hand) (keyOf hand) (now (words .entry)) (now (words .exit)) ⌝ }
+{
+    let key = entry::key_of(hand);
+    if key == NONE {
+        return;
+    }
+    tree::lower(words, m, entry::wide(entry::place_of(hand)), key);
+}
+
 // The place is open with this key, which is none above the one that it has.
 pub fn lower(words: &mut [u32], m: usize, hand: u64, place: usize, key: u32) -> u64
     requires { ⌜ Lowers m hand place key (now words) ⌝ }
@@ -66,14 +79,12 @@ pub fn lower(words: &mut [u32], m: usize, hand: u64, place: usize, key: u32) -> 
     if entry::wide(entry::place_of(hand)) == place {
         return x;
     }
-    // The empty hand takes what comes in first of all.
-    if entry::key_of(hand) == NONE {
-        let root = tree::least(words, m);
-        if x < root {
-            let k = tree::key(words, m, place);
-            if k == NONE {
-                return x;
-            }
+    // The hand takes what comes before it and has no key in the tree.
+    if x < hand {
+        let k = tree::key(words, m, place);
+        if k == NONE {
+            put_down(words, m, hand);
+            return x;
         }
     }
     tree::lower(words, m, place, key);
@@ -86,7 +97,7 @@ pub fn close(words: &mut [u32], m: usize, hand: u64, place: usize) -> u64
     ensures { λ r. ⌜ Put m place noKey hand (now (words .entry)) r (now (words .exit)) ⌝ }
 {
     if entry::wide(entry::place_of(hand)) == place {
-        return empty();
+        return EMPTY;
     }
     tree::close(words, m, place);
     hand

@@ -120,13 +120,17 @@ pub fn close(words: &mut [u32], m: usize, p: usize)
 {
     words[m + m + p] = super::NONE;
     let mut i = (m + p - 1) / 8;
-    let x = leaves8(words, m, 8 * i + 1 - m);
-    store(words, i, x);
+    let mut x = leaves8(words, m, 8 * i + 1 - m);
     while 0 < i {
-        i = (i - 1) / 8;
-        let y = nodes8(words, 8 * i + 1);
-        store(words, i, y);
+        let j = (i - 1) / 8;
+        // The parent's seven other children first, so that the read of eight nodes need not wait for x.
+        store(words, i, super::EMPTY);
+        let others = nodes8(words, 8 * j + 1);
+        store(words, i, x);
+        x = entry::first(others, x);
+        i = j;
     }
+    store(words, 0, x);
 }
 
 // The least key, and the lowest place that has it: the root's entry.

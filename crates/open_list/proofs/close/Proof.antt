@@ -2,6 +2,7 @@
 -- Assumes nothing.
 use native.Mathlib.Omega.{arith}
 use borrow.Author.Needs.{needs}
+use Rattle.open_list.specs.Keys.{emptyHand}
 use Rattle.open_list.proofs.Structure as structure
 use Rattle.open_list.proofs.close.Statement.{statement}
 use Rattle.open_list.proofs.close.Tie as tie
@@ -12,13 +13,9 @@ place-of-requires c κs = search needs
 wide-requires : tie.Need-wide-requires
 wide-requires c κs = search needs
 
-empty-requires : tie.Need-empty-requires
-empty-requires c κs = search needs
-
 returns : tie.Need-returns
-returns c =
-    let start = c .before .before .before .before .before in
-    structure.lets-go _ _ _ _ _ (start .pre) (omega arith) (c .empty .ensures)
+unfolding emptyHand
+returns c = structure.lets-go _ _ _ _ _ (c .before .before .before .before .pre) (omega arith) (omega arith)
 
 close-requires : tie.Need-close-requires
 close-requires c κs =
@@ -39,7 +36,6 @@ close-spec =
     (tie.spec
     place-of-requires
     wide-requires
-    empty-requires
     returns
     close-requires
     same-length

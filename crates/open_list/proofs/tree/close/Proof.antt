@@ -1,4 +1,5 @@
--- The invariant of the loop: the keys have the new one, and every node is right but the parent of node i. The measure is i.
+-- The invariant of the loop: the keys have the new one, and every node is right but node i, which is to get x, the first of its children. The
+-- measure is i.
 -- Assumes nothing.
 use mathlib.Core.Path.{refl}
 use native.Mathlib.Omega.{arith}
@@ -10,10 +11,10 @@ use Rattle.open_list.proofs.tree.close.Statement.{statement}
 use Rattle.open_list.proofs.tree.close.Tie as tie
 
 abbrev Inv-loop : tie.InvT-loop
-Inv-loop words₀ m p i₀ x words i = Closing m (treeKeys m words₀) words i
+Inv-loop words₀ m p i₀ x₀ words i x = Closing m (treeKeys m words₀) words x i
 
 abbrev μ-loop : tie.MeasureT-loop
-μ-loop words₀ m p i₀ x words i = i
+μ-loop words₀ m p i₀ x₀ words i x = i
 
 add-words : tie.Need-add-words Inv-loop μ-loop
 add-words c = search needs
@@ -45,16 +46,14 @@ sub-leaves8 c = omega (arith, c .before .before .pre .tree .shape .nodes .form)
 leaves8-requires : tie.Need-leaves8-requires Inv-loop μ-loop
 leaves8-requires c κs = laws.first-leaves _ _ _ _ (c .before .before .pre)
 
-store-requires : tie.Need-store-requires Inv-loop μ-loop
-store-requires c κs = laws.first-inside _ _ _ _ (c .before .before .before .before .pre)
-
 loop-holds : tie.Need-loop-holds Inv-loop μ-loop
-loop-holds c =
-    let start = c .before .before .before .before .before .before .before in
-    laws.closing-start _ _ _ _ (start .pre) _ _ _ refl (c .before .before .before .before .leaves8 .ensures) (c .before .before .store .ensures)
+loop-holds c = laws.closing-start _ _ _ _ (c .before .before .before .pre) _ (c .leaves8 .ensures)
 
-sub-i-2 : tie.Need-sub-i-2 Inv-loop μ-loop
-sub-i-2 c = search needs
+sub-j : tie.Need-sub-j Inv-loop μ-loop
+sub-j c = search needs
+
+store-requires : tie.Need-store-requires Inv-loop μ-loop
+store-requires c κs = search needs
 
 mul-nodes8 : tie.Need-mul-nodes8 Inv-loop μ-loop
 mul-nodes8 c = search needs
@@ -68,24 +67,31 @@ nodes8-requires c κs = search needs
 store-requires-2 : tie.Need-store-requires-2 Inv-loop μ-loop
 store-requires-2 c κs = search needs
 
+first-requires : tie.Need-first-requires Inv-loop μ-loop
+first-requires c κs = search needs
+
 loop-less : tie.Need-loop-less Inv-loop μ-loop
 loop-less c = search needs
 
 loop-again : tie.Need-loop-again Inv-loop μ-loop
 loop-again c =
-    let loop = c .before .before .before .before .before .before .before .loop in
-    let above = c .before .before .before .before .before .before .loop-test .taken in
-    rw (c .before .before .store2 .ensures) (laws.closing-step _ _ _ _ _ _ (loop .inv) above refl (c .before .before .before .before .nodes8 .ensures))
+    let loop = c .before .before .before .before .before .before .before .before .before .before .before .before .loop in
+    let above = c .before .before .before .before .before .before .before .before .before .before .before .loop-test .taken in
+    let away = c .before .before .before .before .before .before .before .before .before .store .ensures in
+    let others = c .before .before .before .before .before .nodes8 .ensures in
+    let back = c .before .before .before .store2 .ensures in
+    laws.closing-step _ _ _ _ _ (loop .inv) 0xFFFF_FFFF_FFFF_FFFF _ _ _ _ above away (omega arith) others back (c .first .ensures)
+
+store-requires-3 : tie.Need-store-requires-3 Inv-loop μ-loop
+store-requires-3 c κs = search needs
 
 same-length : tie.Need-same-length Inv-loop μ-loop
 same-length c = search needs
 
 returns : tie.Need-returns Inv-loop μ-loop
 returns c =
-    let start = c .before .before .before .before .before .before .before .before .before in
-    let first = c .before .before .before .before .before .before .leaves8 .ensures in
-    let keys = laws.closing-keys _ _ _ _ (start .pre) _ _ _ refl first (c .before .before .before .before .store .ensures) in
-    laws.closing-end _ _ _ _ _ _ _ (c .before .loop .inv) (omega (arith, c .loop-test .left)) keys
+    let left = c .before .before .before .before in
+    laws.closing-end _ _ _ _ _ (left .before .loop .inv) _ _ _ _ refl (omega (arith, left .loop-test .left)) (c .before .before .store3 .ensures)
 
 pub close-spec : {M : Type 1} → statement M
 close-spec =
@@ -103,14 +109,16 @@ close-spec =
     add-leaves8
     sub-leaves8
     leaves8-requires
-    store-requires
     loop-holds
-    sub-i-2
+    sub-j
+    store-requires
     mul-nodes8
     add-nodes8
     nodes8-requires
     store-requires-2
+    first-requires
     loop-less
     loop-again
+    store-requires-3
     same-length
     returns)

@@ -60,7 +60,8 @@ returns-2 c =
     let loop = c .before .before .before .before .before .before .before .before .loop in
     let node = c .before .before .before .before .before .before .node .ensures in
     let above = c .before .before .before .before .before .if1 .left in
-    rw (c .before .before .before .store .ensures) (laws.lowering-end _ _ _ _ _ (loop .inv) (omega (arith, node, above)) _ _ _ refl (c .if2 .taken))
+    let store = c .before .before .before .store .ensures in
+    laws.lowering-end _ _ _ _ _ (loop .inv) _ store (omega (arith, node, above)) _ _ _ refl (c .if2 .taken)
 
 sub-i-2 : tie.Need-sub-i-2 Inv-loop μ-loop
 sub-i-2 c = search needs
@@ -73,7 +74,8 @@ loop-again c =
     let loop = c .before .before .before .before .before .before .before .before .loop in
     let node = c .before .before .before .before .before .before .node .ensures in
     let above = c .before .before .before .before .before .if1 .left in
-    rw (c .before .before .before .store .ensures) (laws.lowering-step _ _ _ _ _ (loop .inv) (omega (arith, node, above)) (omega (arith, c .if2 .left)))
+    let store = c .before .before .before .store .ensures in
+    laws.lowering-step _ _ _ _ _ (loop .inv) _ store (omega (arith, node, above)) (omega (arith, c .if2 .left))
 
 pub lower-spec : {M : Type 1} → statement M
 lower-spec =

@@ -1,0 +1,71 @@
+-- All demands hold of the router's calls, as their contracts give them. Assumes nothing.
+use mathlib.Core.Path.{_≡_, refl, sym, ap, _∙_}
+use mathlib.Core.List.{List}
+use Prim.Native.Nat.{ℕ, _≤_}
+use native.Mathlib.Omega.{arith}
+use lib.ListN.{length, take, replicate}
+use lib.Seq.{take-all}
+use Rattle.model.specs.Answer as model
+use Rattle.model.specs.Answer.{Result, overFront}
+use Rattle.model.specs.Calls.{result, Keeps}
+use Rattle.model.proofs.Demands.{Demands, demands}
+use Rattle.router.specs.declared.Answer.{Answer}
+use Rattle.router.specs.Call.{seven}
+use Rattle.demands.specs.Calls.{Routes, Exports, answerIn}
+
+-- the code's answer with these numbers
+answerWith : model.Answer → Answer
+answerWith a =
+    record {
+      number = a .number;
+      cost = a .cost;
+      limit = a .limit;
+      floor = a .floor;
+      expansions = a .expansions;
+      queries = a .queries;
+      «sheet_bytes» = a .sheet-bytes;
+    }
+
+-- results are the same where their numbers and their areas are
+same-result : (r s : Result) → r .answer ≡ s .answer → r .work ≡ s .work → r .sheet ≡ s .sheet → r ≡ s
+same-result r s answers works sheets =
+    ap (λ (x : model.Answer). record { answer = x; work = r .work; sheet = r .sheet }) answers
+    ∙ ap (λ (x : List ℕ). record { answer = s .answer; work = x; sheet = r .sheet }) works
+    ∙ ap (λ (x : List ℕ). record { answer = s .answer; work = s .work; sheet = x }) sheets
+
+routes-keeps : Keeps Routes
+unfolding answerWith
+routes-keeps = record {
+  gives = λ c. record { code = answerWith (result c .answer); numbers = refl; contract = record { result = refl } };
+  only = λ c r g. same-result r _ (sym (g .numbers)) refl refl ∙ g .contract .result;
+}
+
+-- All demands hold of router::route.
+pub router-demands : Demands Routes
+router-demands = demands Routes routes-keeps
+
+-- seven numbers in words that have room for them
+seven-in : (a : model.Answer) (lent : List ℕ) → 7 ≤ length lent → answerIn (overFront (take (length lent) (seven a)) lent) ≡ a
+unfolding answerIn overFront
+seven-in a lent h = rw (take-all (length lent) (seven a) h)
+
+exports-keeps : Keeps Exports
+unfolding answerIn overFront
+exports-keeps = record {
+  gives = λ c.
+      record {
+        lent = replicate 7 0;
+        words = seven (result c .answer);
+        room = omega arith;
+        numbers = refl;
+        contract = record { gives = refl; leaves-work = refl; leaves-sheet = refl; leaves-answer = refl };
+      };
+  only = λ c r g.
+      let k = g .contract in
+      let numbers = sym (g .numbers) ∙ ap answerIn (k .leaves-answer) ∙ seven-in (result c .answer) (g .lent) (g .room) in
+      same-result r (result c) numbers (k .leaves-work) (k .leaves-sheet);
+}
+
+-- and of the call that is exported for C.
+pub exported-demands : Demands Exports
+exported-demands = demands Exports exports-keeps

@@ -1,0 +1,3 @@
+-- The demands, of the public calls as their contracts give them.
+pub mod Calls
+pub mod Display

@@ -1,0 +1,1 @@
+// No code: the demands, of the public calls as their contracts give them (specs/), proved (proofs/).

@@ -1,0 +1,206 @@
+-- The conditions of 1 to 15 at their edges: beside each input that is refused stands one that just passes; and the host's questions. Computed from
+-- the definitions.
+use mathlib.Core.Path.{_≡_, refl}
+use mathlib.Core.Bool.{Bool, true, false, _&&_}
+use mathlib.Core.List.{List, [], _∷_, _++_}
+use Prim.Native.Nat.{ℕ, zero, suc, _+_, _*_}
+use lib.Dec.{eqb}
+use lib.ListN.{replicate}
+use Rattle.model.specs.Bytes.{put16, put32}
+use Rattle.model.specs.Framing.{Record, frame, putRecord}
+use Rattle.model.specs.Input.{headKind, arcKind, estimateKind, jobKind}
+use Rattle.model.specs.Refusals.{wrongSize, refusal}
+use Rattle.model.specs.Jobs.{putHead, putArc, putEstimate, putJob}
+use Rattle.model.specs.Sheets.{readSheet, hostAnswer}
+use Rattle.model.proofs.Compute.{compute}
+use Rattle.model.proofs.Runs.{Run, same, seven, over, agrees, agree, run, sheet9}
+
+-- A job whose start is its goal ends at once, with the route 0 at cost 0: what passes below comes to this.
+here : List ℕ
+here = putJob 0 9 (0 ∷ [])
+
+sheet0 : List ℕ
+sheet0 = 0x08 ∷ 0x00 ∷ 0x11 ∷ 0x00 ∷ 0x00 ∷ 0x00 ∷ 0x00 ∷ 0x00 ∷ 0x01 ∷ 0x00 ∷ 0x00 ∷ 0x00 ∷ []
+
+arrived : List ℕ
+arrived = 0 ∷ 0 ∷ 0 ∷ 0 ∷ 0 ∷ 1 ∷ 12 ∷ []
+
+-- a map of n places and m arcs passes
+passes : (n m : ℕ) → List ℕ → Run
+passes n m input = run input arrived (16 * n + 2 * m) sheet0
+
+refused : ℕ → List ℕ → Run
+refused number input = run input (number ∷ 0 ∷ 0 ∷ 0 ∷ 0 ∷ 0 ∷ 0 ∷ []) 0 []
+
+-- a head of one place, and of two places with so many arcs
+one : List ℕ
+one = putHead 1 0
+
+two : ℕ → List ℕ
+two m = putHead 2 m
+
+mapEdges : List Run
+mapEdges =
+    passes 1 0 (one ++ here)
+    -- 1: bytes left over, and a body that runs past the end
+    ∷ refused 1 (one ++ here ++ (0 ∷ []))
+    ∷ refused 1 (one ++ here ++ (0 ∷ 0 ∷ 0 ∷ []))
+    ∷ refused 1 (one ++ put16 11 ++ put16 jobKind ++ put16 0 ++ put32 9 ++ put16 1 ++ put16 0)
+    -- 2: kinds 0, 5 and 256 + 4
+    ∷ refused 2 (one ++ here ++ (0 ∷ 0 ∷ 0 ∷ 0 ∷ []))
+    ∷ refused 2 (one ++ putRecord 5 [] ++ here)
+    ∷ refused 2 (one ++ putRecord 260 (put16 0 ++ put32 9 ++ put16 1 ++ put16 0))
+    -- 3: bodies too long and too short; of a job also by its count of goals
+    ∷ refused 3 (putRecord headKind (put16 1 ++ put16 0 ++ (0 ∷ [])) ++ here)
+    ∷ refused 3 (putRecord headKind (put16 1 ++ (0 ∷ [])) ++ here)
+    ∷ refused 3 (two 1 ++ putRecord arcKind (put16 0 ++ put16 1 ++ put16 1 ++ (0 ∷ [])) ++ here)
+    ∷ refused 3 (two 1 ++ putRecord arcKind (put16 0 ++ put16 1 ++ (1 ∷ [])) ++ here)
+    ∷ refused 3 (two 0 ++ putRecord estimateKind (put16 1 ++ put32 1 ++ (0 ∷ [])) ++ here)
+    ∷ refused 3 (two 0 ++ putRecord estimateKind (put16 1 ++ (1 ∷ 0 ∷ 0 ∷ [])) ++ here)
+    ∷ refused 3 (one ++ putRecord jobKind (put16 0 ++ put32 9 ++ (0 ∷ [])))
+    ∷ refused 3 (one ++ putRecord jobKind (put16 0 ++ put32 9 ++ put16 1 ++ put16 0 ++ put16 0))
+    ∷ refused 3 (two 0 ++ putRecord jobKind (put16 0 ++ put32 9 ++ put16 2 ++ put16 0))
+    -- 4: no record at all, another record first, a second head
+    ∷ refused 4 []
+    ∷ refused 4 (putEstimate 0 0 ++ one ++ here)
+    ∷ refused 4 (one ++ one ++ here)
+    -- 5: no place; one arc too few or too many, also behind the job
+    ∷ refused 5 (putHead 0 0 ++ here)
+    ∷ passes 2 1 (two 1 ++ putArc 0 1 1 ++ here)
+    ∷ refused 5 (two 1 ++ here)
+    ∷ refused 5 (two 0 ++ putArc 0 1 1 ++ here)
+    ∷ refused 5 (two 0 ++ here ++ putArc 0 1 1)
+    -- 6: the place N of an arc and of an estimate, beside the place N − 1
+    ∷ refused 6 (two 1 ++ putArc 2 1 1 ++ here)
+    ∷ refused 6 (two 1 ++ putArc 0 2 1 ++ here)
+    ∷ passes 2 0 (two 0 ++ putEstimate 1 1 ++ here)
+    ∷ refused 6 (two 0 ++ putEstimate 2 1 ++ here)
+    -- 7: an arc of cost 0, beside one of 1 (above) and one of 65,535
+    ∷ refused 7 (two 1 ++ putArc 0 1 0 ++ here)
+    ∷ passes 2 1 (two 1 ++ putArc 0 1 65535 ++ here)
+    -- 8
+    ∷ passes 2 0 (two 0 ++ putEstimate 1 268435455 ++ here)
+    ∷ refused 8 (two 0 ++ putEstimate 1 268435456 ++ here)
+    -- 9: two equal and two unequal estimates for one place, beside estimates for two places
+    ∷ refused 9 (two 0 ++ putEstimate 1 5 ++ putEstimate 1 5 ++ here)
+    ∷ refused 9 (two 0 ++ putEstimate 1 5 ++ putEstimate 1 6 ++ here)
+    ∷ refused 9 (two 0 ++ putEstimate 1 0 ++ putEstimate 1 6 ++ here)
+    ∷ passes 2 0 (two 0 ++ putEstimate 0 0 ++ putEstimate 1 6 ++ here)
+    ∷ []
+
+jobEdges : List Run
+jobEdges =
+    -- 10: no job, two jobs, one that is not last
+    refused 10 one
+    ∷ refused 10 (one ++ here ++ here)
+    ∷ refused 10 (two 1 ++ here ++ putArc 0 1 1)
+    -- 11: the place N as start and as goal, beside the place N − 1
+    ∷ refused 11 (two 0 ++ putJob 2 9 (0 ∷ []))
+    ∷ refused 11 (two 0 ++ putJob 0 9 (0 ∷ 2 ∷ []))
+    ∷ passes 2 0 (two 0 ++ putJob 0 9 (0 ∷ 1 ∷ []))
+    -- 12: no goal, equal goals, falling goals
+    ∷ refused 12 (two 0 ++ putJob 0 9 [])
+    ∷ refused 12 (two 0 ++ putJob 0 9 (0 ∷ 0 ∷ []))
+    ∷ refused 12 (two 0 ++ putJob 0 9 (1 ∷ 0 ∷ []))
+    -- 13: an estimate at a goal, beside one of 0
+    ∷ refused 13 (two 0 ++ putEstimate 1 1 ++ putJob 0 9 (0 ∷ 1 ∷ []))
+    ∷ passes 2 0 (two 0 ++ putEstimate 1 0 ++ putJob 0 9 (0 ∷ 1 ∷ []))
+    ∷ []
+
+-- the map of two places and an arc, on so many words and bytes
+lent : (words bytes number : ℕ) → Run
+lent words bytes number =
+    record {
+      input = two 1 ++ putArc 0 1 1 ++ here;
+      words = words;
+      bytes = bytes;
+      numbers = number ∷ 0 ∷ 0 ∷ 0 ∷ 0 ∷ 0 ∷ 0 ∷ [];
+      zeros = 0;
+      sheet = [];
+    }
+
+-- 14 and 15: 16 × 2 + 2 × 1 words and 10 + 2 × 2 bytes are enough
+roomEdges : List Run
+roomEdges =
+    record {
+      input = two 1 ++ putArc 0 1 1 ++ here;
+      words = 34;
+      bytes = 14;
+      numbers = arrived;
+      zeros = 34;
+      sheet = sheet0;
+    }
+    ∷ lent 33 14 14
+    ∷ lent 34 13 15
+    ∷ lent 33 13 14
+    ∷ []
+
+edges-agree : agree (mapEdges ++ jobEdges ++ roomEdges) ≡ true
+unfolding compute same seven over agrees agree run here sheet0 arrived passes refused one two mapEdges jobEdges lent roomEdges
+edges-agree = refl
+
+-- ---- The largest numbers. Of whole inputs as large as these only the refusal can be computed, or one condition.
+
+below : ℕ → List ℕ
+below zero = []
+below (suc n) = below n ++ (n ∷ [])
+
+-- enough words and bytes for every map
+refusalOf : List ℕ → ℕ
+refusalOf input = refusal (frame input) 98304 8202
+
+most-places : (refusalOf (putHead 4096 0 ++ here) ≡ 0) × (refusalOf (putHead 4097 0 ++ here) ≡ 5)
+unfolding compute here refusalOf
+most-places = (refl, refl)
+
+most-goals : (refusalOf (putHead 65 0 ++ putJob 0 9 (below 64)) ≡ 0) × (refusalOf (putHead 65 0 ++ putJob 0 9 (below 65)) ≡ 12)
+unfolding compute below refusalOf
+most-goals = (refl, refl)
+
+-- a head that says m arcs, and m arcs
+withArcs : ℕ → List Record
+withArcs m =
+    record { kind = headKind; body = put16 1 ++ put16 m } ∷ replicate m (record { kind = arcKind; body = put16 0 ++ put16 0 ++ put16 1 })
+
+most-arcs : (wrongSize (withArcs 16384) ≡ false) × (wrongSize (withArcs 16385) ≡ true)
+unfolding compute withArcs
+most-arcs = (refl, refl)
+
+-- ---- The host's questions: of a sheet's bytes, the answers to 0, 1, 2, … in order
+
+answersFrom : ℕ → List ℕ → List ℕ → Bool
+answersFrom question bytes [] = true
+answersFrom question bytes (x ∷ xs) = eqb (hostAnswer (readSheet bytes) question) x && answersFrom (suc question) bytes xs
+
+answers : List ℕ → List ℕ → Bool
+answers bytes xs = answersFrom 0 bytes xs
+
+noRouteFrom5 : List ℕ
+noRouteFrom5 = 0x02 ∷ 0x00 ∷ 0x12 ∷ 0x00 ∷ 0x05 ∷ 0x00 ∷ []
+
+-- places 0, 1 and 1 again, at cost 2
+twice : List ℕ
+twice = 0x0C ∷ 0x00 ∷ 0x11 ∷ 0x00 ∷ 0x02 ∷ 0x00 ∷ 0x00 ∷ 0x00 ∷ 0x03 ∷ 0x00 ∷ 0x00 ∷ 0x00 ∷ 0x01 ∷ 0x00 ∷ 0x01 ∷ 0x00 ∷ []
+
+-- a sheet of two places
+from0 : (place cost : ℕ) → List ℕ
+from0 place cost = putRecord 17 (put32 cost ++ put16 2 ++ put16 0 ++ put16 place)
+
+questions-answered :
+    (answers sheet9 (0 ∷ 2 ∷ 3 ∷ 0 ∷ 1 ∷ 3 ∷ 0 ∷ 0 ∷ [])
+    && answersFrom 4098 sheet9 (0 ∷ 0 ∷ [])
+    && answers noRouteFrom5 (17 ∷ 0 ∷ 1 ∷ 5 ∷ 0 ∷ [])
+    -- 18: no record, a byte more, a kind that is no sheet's
+    && answers [] (18 ∷ 0 ∷ 0 ∷ 0 ∷ 0 ∷ [])
+    && answers (sheet9 ++ (0 ∷ [])) (18 ∷ 0 ∷ 0 ∷ 0 ∷ 0 ∷ [])
+    && answers (putRecord 19 (put16 0)) (18 ∷ 0 ∷ 0 ∷ 0 ∷ 0 ∷ [])
+    -- 19: a place twice, no place, the place 4,096, costs out of range; beside sheets that pass
+    && answers twice (19 ∷ 0 ∷ 0 ∷ 0 ∷ 0 ∷ [])
+    && answers (putRecord 17 (put32 0 ++ put16 0)) (19 ∷ 0 ∷ 0 ∷ 0 ∷ 0 ∷ [])
+    && answers (from0 4095 1) (0 ∷ 1 ∷ 2 ∷ 0 ∷ 4095 ∷ 0 ∷ [])
+    && answers (from0 4096 1) (19 ∷ 0 ∷ 0 ∷ 0 ∷ 0 ∷ [])
+    && answers (from0 1 0) (19 ∷ 0 ∷ 0 ∷ 0 ∷ 0 ∷ [])
+    && answers (from0 1 65535) (0 ∷ 65535 ∷ 2 ∷ 0 ∷ 1 ∷ 0 ∷ [])
+    && answers (from0 1 65536) (19 ∷ 0 ∷ 0 ∷ 0 ∷ 0 ∷ [])) ≡ true
+unfolding compute answersFrom answers sheet9 noRouteFrom5 twice from0
+questions-answered = refl
