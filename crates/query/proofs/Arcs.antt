@@ -11,6 +11,7 @@ use Rattle.map.specs.Layout.{endsAt, estimatesAt, arcsAt, rowStart, rowEnd, arc
 use Rattle.scans.specs.Area.{keys}
 use Rattle.query.specs.State.{Arrives, Arrived, Coherent, ByArc, ByArcs, Fell, Stays, Relaxed, Relaxes, Expands, Expanding}
 use Rattle.map.proofs.Held.{map-word, at-arc, estimate-word}
+use Rattle.query.proofs.Regions.{map-same}
 use Rattle.query.proofs.Coherence.{KeySet, own-key, other-key, still-coherent}
 
 -- a label that an arc may fall below is above no key that its place has
@@ -45,7 +46,7 @@ module _ (n m hand d x : ℕ) (w : List ℕ) (r : Relaxes n m hand d x w) where
       → Relaxed n m (ByArc n limit d x w) hand w hand w
   relax-passes limit p =
       record {
-        same-map = refl;
+        same-rest = refl;
         coherent = r .coherent;
         reached = λ v e h b.
             let here = ap (λ (i : ℕ). getD w i 0) (b .ends) in
@@ -72,7 +73,7 @@ module _ (n m hand d x : ℕ) (w : List ℕ) (r : Relaxes n m hand d x w) where
         → Relaxed n m (ByArc n limit d x w) hand w hand′ w′
     relax-falls limit l k =
         record {
-          same-map = a .same-map;
+          same-rest = a .same-rest;
           coherent = still-coherent key-set;
           reached = λ v e h b. let here = ap (λ (i : ℕ). getD w′ i 0) (b .ends) in omega (arith, a .label, b .sum);
           moved = λ v h. go v h (ℕ-discrete v (x / 65536));
@@ -104,7 +105,7 @@ module _ (n m : ℕ) (A B C : ℕ → ℕ → Type 0) (split : (v e : ℕ) → C
   pub relaxed-both : Relaxed n m C h₀ w₀ h₂ w₂
   relaxed-both =
       record {
-        same-map = b .same-map ∙ a .same-map;
+        same-rest = b .same-rest ∙ a .same-rest;
         coherent = b .coherent;
         reached = λ v e h c. ⊎-elim (λ i. omega (arith, a .reached v e h i, no-higher v h)) (λ j. b .reached v e h j) (split v e c);
         moved = λ v h. both-moved v (a .moved v h) (b .moved v h);
@@ -120,7 +121,7 @@ module _ (n m limit hand₀ u d : ℕ) (w₀ : List ℕ) (x : Expands n m hand�
       record {
         relaxed =
             record {
-              same-map = refl;
+              same-rest = refl;
               coherent = x .coherent;
               reached = λ v e h b. absurd (omega (arith, b .from, b .before));
               moved = λ v h. inl (record { label = refl; key = refl });
@@ -134,7 +135,7 @@ module _ (n m limit hand₀ u d : ℕ) (w₀ : List ℕ) (x : Expands n m hand�
   module _ (k₀ end hand : ℕ) (w : List ℕ) (k : ℕ) (p : k₀ ≡ rowStart n w₀ u) (q : end ≡ rowEnd n w₀ u) (going : Expanding n m limit d end hand₀ w₀ k₀ hand w k)
     where
       word-same : (i : ℕ) → endsAt n ≤ i → getD w i 0 ≡ getD w₀ i 0
-      word-same = map-word n w w₀ (going .relaxed .same-map)
+      word-same = map-word n w w₀ (map-same n w₀ w (going .relaxed .same-rest))
 
       pub expand-relaxes : k < end → (at : ℕ) → at ≡ arcsAt n → Relaxes n m hand d (getD w (at + k) 0) w
       unfolding arcIn problemAt

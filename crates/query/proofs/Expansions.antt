@@ -5,14 +5,11 @@ use mathlib.Core.Logic.{_⊎_, inl, inr, ⊎-elim}
 use mathlib.Core.Bool.{true}
 use mathlib.Core.List.{List}
 use mathlib.Core.Option.{Option, some}
-use Prim.Native.Nat.{ℕ, _+_, _-_, _^_, _≤_, _<_}
+use Prim.Native.Nat.{ℕ, _+_, _^_, _≤_, _<_}
 use native.Mathlib.Omega.{arith}
 use native.Mathlib.Decide.{ℕ-discrete, decLt}
 use lib.ListN.{length, getD}
-use borrow.Rule.Slice.PartMut.{putMid}
-use Rattle.area.specs.Part.{part}
 use Rattle.open_list.specs.Entry.{noKey}
-use Rattle.open_list.specs.Keys.{Closes, Put}
 use Rattle.map.specs.Layout.{arcsAt, rowStart, rowEnd, arcIn, Holds, problemAt}
 use Rattle.model.specs.Problem.{Arc, IsArc, IsGoal}
 use Rattle.model.specs.Costs.{costAt}
@@ -21,12 +18,13 @@ use Rattle.model.proofs.Same.{bool-ext}
 use Rattle.query.specs.Front.{FirstOpen, Expanded, also}
 use Rattle.scans.specs.Area.{labels, keys, settledAt}
 use Rattle.query.specs.Query.{Askable}
-use Rattle.query.specs.State.{Coherent, ByArcs, Fell, Relaxed, Expands, Searching}
+use Rattle.query.specs.State.{Coherent, Settles, Settled, ByArcs, Fell, Relaxed, Expands, Searching}
 use Rattle.query.proofs.Settling.{also-same, also-other, keeps-label, next-front}
 use Rattle.query.proofs.Counting.{count-also, count-at-most}
 use Rattle.scans.proofs.Words.{not-true-false, HasLabel, label-word, label-beyond, label-is, is-label, at-most, settled-is, is-settled}
 use Rattle.map.proofs.Held.{problem-same, holds-same, arc-at, at-arc, estimate-word}
-use Rattle.query.proofs.Regions.{openEnd, open-part, Back, back}
+use Rattle.query.proofs.Regions.{listed-same, map-same}
+use Rattle.query.proofs.Listing.{lists-same, lists-also}
 use Rattle.query.proofs.Coherence.{KeySet, own-key, other-key, still-coherent}
 use Rattle.query.proofs.QueryUnderway.{label-below, Taken}
 
@@ -90,55 +88,43 @@ module _ (n m arcs start limit u d h₀ : ℕ) (w₀ : List ℕ) (holds : Holds 
   pub row-expanded : Expanded (problemAt n start w₀) limit u d (λ v. costAt (labels n w₀) v) (λ v. costAt (labels n w) v)
   row-expanded = record { kept = row-kept; reached = row-reached; sound = row-sound }
 
--- the words when the open list has come back as ys
-abbrev pub closed : ℕ → ℕ → List ℕ → List ℕ → List ℕ
-closed n m w ys = putMid n (openEnd n m - n) w ys
+-- v is settled, and the words are w₁
+module _ (n m hand count v : ℕ) (w : List ℕ) (coherent : Coherent n m hand w) (place : v < n) (hand₁ : ℕ) (w₁ : List ℕ)
+    (c : Settled n m count v hand w hand₁ w₁) (len : length w₁ ≡ length w) where
+  key-set : KeySet n m hand w v noKey hand₁ w₁
+  key-set =
+      record {
+        coherent = coherent;
+        place = place;
+        keys-set = c .keys-set;
+        list = c .list;
+        same-length = len;
+        other-labels = λ u h q. c .label u h;
+        label = inl refl;
+      }
 
--- the open list as it is lent to be closed at the place v
-module _ (n m hand v : ℕ) (w : List ℕ) (coherent : Coherent n m hand w) (place : v < n) where
-  pub close-asked : Closes m hand v (part n (openEnd n m) w)
-  close-asked = rw (← (open-part n m w)) (record { list = coherent .list; place-in = omega (arith, place, coherent .room .enough .keys) })
+  -- a labelled place that is settled is so besides those that were
+  settled-also : (getD w v 0 ≡ noKey → ⊥) → (u : ℕ) → settledAt n m hand₁ w₁ u ≡ also (settledAt n m hand w) v u
+  settled-also l u = go (ℕ-discrete u v)
+    where
+      go : Dec (u ≡ v) → settledAt n m hand₁ w₁ u ≡ also (settledAt n m hand w) v u
+      go (yes q) =
+          let settled = is-settled n m hand₁ w₁ v (record { place = place; label = λ e. l (sym (c .label v place) ∙ e); key = own-key key-set }) in
+          rw q settled ∙ sym (also-same (settledAt n m hand w) v u q)
+      go (no q) = settled-same n m hand w hand₁ w₁ u (c .label u) (other-key key-set u q) ∙ sym (also-other (settledAt n m hand w) v u q)
 
-  -- and as it comes back
-  module _ (hand′ : ℕ) (ys : List ℕ) (len : length ys ≡ length (part n (openEnd n m) w)) (put : Put m v noKey hand (part n (openEnd n m) w) hand′ ys) where
-    came-back : Back n m w ys (closed n m w ys)
-    came-back = back n m w ys (coherent .room) len
+  settled-label : (u : ℕ) → costAt (labels n w₁) u ≡ costAt (labels n w) u
+  settled-label u = go (decLt u n)
+    where
+      before : n ≤ length w
+      before = omega (arith, coherent .room .words)
 
-    key-set : KeySet n m hand w v noKey hand′ (closed n m w ys)
-    unfolding keys
-    key-set =
-        record {
-          coherent = coherent;
-          place = place;
-          keys-set = rw (came-back .list, open-part n m w) (put .keys-set);
-          list = rw (came-back .list) (put .list);
-          same-length = came-back .same-length;
-          other-labels = λ u h q. came-back .label u h;
-          label = inl refl;
-        }
+      after : n ≤ length w₁
+      after = omega arith
 
-    -- a labelled place that is closed is settled, besides those that were
-    pub closed-settled : (getD w v 0 ≡ noKey → ⊥) → (u : ℕ) → settledAt n m hand′ (closed n m w ys) u ≡ also (settledAt n m hand w) v u
-    closed-settled l u = go (ℕ-discrete u v)
-      where
-        go : Dec (u ≡ v) → settledAt n m hand′ (closed n m w ys) u ≡ also (settledAt n m hand w) v u
-        go (yes q) =
-            let settled = is-settled n m hand′ (closed n m w ys) v (record { place = place; label = λ e. l (sym (came-back .label v place) ∙ e); key = own-key key-set }) in
-            rw q settled ∙ sym (also-same (settledAt n m hand w) v u q)
-        go (no q) = settled-same n m hand w hand′ (closed n m w ys) u (came-back .label u) (other-key key-set u q) ∙ sym (also-other (settledAt n m hand w) v u q)
-
-    pub closed-label : (u : ℕ) → costAt (labels n (closed n m w ys)) u ≡ costAt (labels n w) u
-    closed-label u = go (decLt u n)
-      where
-        before : n ≤ length w
-        before = omega (arith, coherent .room .words)
-
-        after : n ≤ length (closed n m w ys)
-        after = omega (arith, came-back .same-length)
-
-        go : Dec (u < n) → costAt (labels n (closed n m w ys)) u ≡ costAt (labels n w) u
-        go (yes h) = label-word n (closed n m w ys) after u h ∙ rw (came-back .label u h) (sym (label-word n w before u h))
-        go (no h) = label-beyond n (closed n m w ys) after u (omega arith) ∙ sym (label-beyond n w before u (omega arith))
+      go : Dec (u < n) → costAt (labels n w₁) u ≡ costAt (labels n w) u
+      go (yes h) = label-word n w₁ after u h ∙ rw (c .label u h) (sym (label-word n w before u h))
+      go (no h) = label-beyond n w₁ after u (omega arith) ∙ sym (label-beyond n w before u (omega arith))
 
 module _ {n m arcs start limit budget left : ℕ} {w₀ : List ℕ} {hand : ℕ} {w : List ℕ} {count v d : ℕ} (t : Taken n m arcs start limit budget left w₀ hand w count v d) where
   ask : Askable n arcs start limit w₀
@@ -155,29 +141,24 @@ module _ {n m arcs start limit budget left : ℕ} {w₀ : List ℕ} {hand : ℕ}
 
   pub count-below : count < n
   count-below =
-      let more = count-also (settledAt n m hand w) v n (first-label .place) (f .is-open) in
+      let more = count-also (settledAt n m hand w) v n (t .place) (f .is-open) in
       omega (arith, s .counted, count-at-most (also (settledAt n m hand w) v) n)
 
-  module _ (hand₁ : ℕ) (ys : List ℕ) (len : length ys ≡ length (part n (openEnd n m) w)) (put : Put m v noKey hand (part n (openEnd n m) w) hand₁ ys) where
-    w₁ : List ℕ
-    w₁ = closed n m w ys
+  pub turn-settles : Settles n m hand count v w
+  turn-settles = record { coherent = s .coherent; place = t .place; more = count-below }
 
+  module _ (hand₁ : ℕ) (w₁ : List ℕ) (c : Settled n m count v hand w hand₁ w₁) (len : length w₁ ≡ length w) where
     word-some : getD w v 0 ≡ noKey → ⊥
     word-some q = first-label .some (sym (first-label .word) ∙ q)
 
-    back₁ : Back n m w ys w₁
-    unfolding w₁
-    back₁ = back n m w ys (s .coherent .room) len
-
     holds₁ : Holds n arcs start w₁
-    holds₁ = holds-same n w₁ w₀ (back₁ .same-map ∙ s .same-map) arcs start (back₁ .same-length ∙ s .same-length) (ask .holds)
+    holds₁ = holds-same n w₁ w₀ (c .same-map ∙ s .same-map) arcs start (len ∙ s .same-length) (ask .holds)
 
-    pub turn-expands : Expands n m hand₁ v d (closed n m w ys)
-    unfolding w₁
+    pub turn-expands : Expands n m hand₁ v d w₁
     turn-expands =
         record {
-          coherent = still-coherent (key-set n m hand v w (s .coherent) (first-label .place) hand₁ ys len put);
-          place = first-label .place;
+          coherent = still-coherent (key-set n m hand count v w (s .coherent) (t .place) hand₁ w₁ c len);
+          place = t .place;
           label-below = label-below (t .under) v d (f .is-labelled);
           arcs = arcs;
           start = start;
@@ -185,20 +166,17 @@ module _ {n m arcs start limit budget left : ℕ} {w₀ : List ℕ} {hand : ℕ}
         }
 
     module _ (no-goal : IsGoal (problemAt n start w₀) v → ⊥) (hand₂ : ℕ) (w₂ : List ℕ)
-        (r : Relaxed n m (ByArcs n limit d (rowStart n (closed n m w ys) v) (rowEnd n (closed n m w ys) v) (closed n m w ys)) hand₁ (closed n m w ys) hand₂ w₂)
-        (len₂ : length w₂ ≡ length (closed n m w ys)) where
+        (r : Relaxed n m (ByArcs n limit d (rowStart n w₁ v) (rowEnd n w₁ v) w₁) hand₁ w₁ hand₂ w₂) (len₂ : length w₂ ≡ length w₁) where
       expanded : Expanded (problemAt n start w₀) limit v d (λ u. costAt (labels n w) u) (λ u. costAt (labels n w₂) u)
-      unfolding w₁
       expanded =
           let same-labels : _≡_ {A = ℕ → Option ℕ} (λ u. costAt (labels n w₁) u) (λ u. costAt (labels n w) u) =
-          λ i u. closed-label n m hand v w (s .coherent) (first-label .place) hand₁ ys len put u i in
-          let same = problem-same n w₁ w₀ (back₁ .same-map ∙ s .same-map) start in
-          let row = row-expanded n m arcs start limit v d hand₁ w₁ holds₁ (first-label .place) (ask .limit-below) hand₂ w₂ r len₂ in
+          λ i u. settled-label n m hand count v w (s .coherent) (t .place) hand₁ w₁ c len u i in
+          let same = problem-same n w₁ w₀ (c .same-map ∙ s .same-map) start in
+          let row = row-expanded n m arcs start limit v d hand₁ w₁ holds₁ (t .place) (ask .limit-below) hand₂ w₂ r len₂ in
           subst (λ (l : ℕ → Option ℕ). Expanded (problemAt n start w₀) limit v d l (λ u. costAt (labels n w₂) u)) same-labels (rw same at row)
 
       settled₁ : (u : ℕ) → settledAt n m hand₁ w₁ u ≡ also (settledAt n m hand w) v u
-      unfolding w₁
-      settled₁ = closed-settled n m hand v w (s .coherent) (first-label .place) hand₁ ys len put word-some
+      settled₁ = settled-also n m hand count v w (s .coherent) (t .place) hand₁ w₁ c len word-some
 
       -- a label that has fallen is that of a place that was not settled, nor is v
       fell-open : (u : ℕ) → Fell n m (ByArcs n limit d (rowStart n w₁ v) (rowEnd n w₁ v) w₁) w₁ hand₂ w₂ u → u < n → also (settledAt n m hand w) v u ≡ true → ⊥
@@ -208,14 +186,13 @@ module _ {n m arcs start limit budget left : ℕ} {w₀ : List ℕ} {hand : ℕ}
           (λ u. costAt (labels n w₂) u) expanded u (x .0) t (x .1) in
           let before = label-is n w (omega (arith, s .coherent .room .words)) u (x .0) (x .1) in
           let after = label-is n w₂ (omega (arith, r .coherent .room .words)) u (x .0) keeps in
-          omega (arith, g .lower, back₁ .label u h, before .word, after .word)
+          omega (arith, g .lower, c .label u h, before .word, after .word)
         where
           labelled : Dec (u ≡ v) → (y : ℕ) × (costAt (labels n w) u ≡ some y)
           labelled (yes q) = (d, rw q (f .is-labelled))
           labelled (no q) = s .front .labelled u (sym (also-other (settledAt n m hand w) v u q) ∙ t)
 
       settled₂ : (u : ℕ) → settledAt n m hand₂ w₂ u ≡ also (settledAt n m hand w) v u
-      unfolding w₁
       settled₂ u = go (decLt u n)
         where
           go : Dec (u < n) → settledAt n m hand₂ w₂ u ≡ also (settledAt n m hand w) v u
@@ -232,19 +209,23 @@ module _ {n m arcs start limit budget left : ℕ} {w₀ : List ℕ} {hand : ℕ}
               never ∙ sym unsettled ∙ settled₁ u
 
       pub searching-on : (count ≡ budget → ⊥) → (count ≡ left → ⊥) → Searching n m start limit budget left w₀ hand₂ w₂ (count + 1)
-      unfolding w₁
       searching-on b l =
           let same : settledAt n m hand₂ w₂ ≡ also (settledAt n m hand w) v = λ i u. settled₂ u i in
-          let more = count-also (settledAt n m hand w) v n (first-label .place) (f .is-open) in
+          let more = count-also (settledAt n m hand w) v n (t .place) (f .is-open) in
+          let listed = listed-same n w₁ w₂ (r .same-rest) in
           record {
-            same-map = r .same-map ∙ back₁ .same-map ∙ s .same-map;
-            same-length = len₂ ∙ back₁ .same-length ∙ s .same-length;
+            same-map = map-same n w₁ w₂ (r .same-rest) ∙ c .same-map ∙ s .same-map;
+            same-length = len₂ ∙ len ∙ s .same-length;
             coherent = r .coherent;
             front =
                 rw same
                 (next-front (problemAt n start w₀) (ask .holds .valid) limit (λ u. costAt (labels n w) u) (settledAt n m hand w) (s .front) v d f
                 (λ u. costAt (labels n w₂) u) expanded no-goal);
             counted = rw same (omega (arith, s .counted));
+            listed =
+                lists-same (λ u e. settled₂ u ∙ e) (λ u e. sym (settled₂ u) ∙ e)
+                (lists-also n count v (settledAt n m hand w) w w₂ count-below (listed count ∙ c .listed) (λ i h. listed i ∙ c .listed-before i h)
+                (s .listed));
             in-budget = omega (arith, s .in-budget);
             lasts = omega (arith, s .lasts);
           }

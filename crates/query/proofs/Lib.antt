@@ -3,6 +3,7 @@ pub mod Settling
 pub mod Counting
 pub mod Front
 pub mod Regions
+pub mod Listing
 pub mod Coherence
 pub mod Arcs
 pub mod QueryUnderway

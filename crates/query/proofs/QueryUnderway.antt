@@ -1,6 +1,6 @@
 -- A query's search under way: how it begins, and what the first of the open list says of it. Assumes nothing.
 use mathlib.Core.Path.{_≡_, refl, sym, ap, _∙_}
-use mathlib.Core.Logic.{_⊎_, inl, inr, ⊎-elim}
+use mathlib.Core.Logic.{inl, inr, ⊎-elim}
 use mathlib.Core.Bool.{Bool, true, false}
 use mathlib.Core.List.{List}
 use mathlib.Core.Option.{some}
@@ -17,7 +17,7 @@ use Rattle.model.specs.Problem.{IsGoal}
 use Rattle.model.specs.Costs.{costAt}
 use Rattle.model.proofs.LeastCosts.{end-below}
 use Rattle.query.specs.Front.{FirstOpen, NoneOpen}
-use Rattle.scans.specs.Area.{labels, keys, settledAt, Labelled}
+use Rattle.scans.specs.Area.{labels, keys, settledAt, Listed}
 use Rattle.query.specs.Query.{Askable}
 use Rattle.query.specs.State.{Room, Blank, Arrives, Arrived, Searching}
 use Rattle.query.proofs.Settling.{not-both}
@@ -25,7 +25,8 @@ use Rattle.query.proofs.Counting.{count-none}
 use Rattle.query.proofs.Front.{begin-front}
 use Rattle.scans.proofs.Words.{not-true-false, HasLabel, label-is, is-label, HasSettled, settled-is, is-settled}
 use Rattle.map.proofs.Held.{problem-same, holds-same, goal-mark, mark-goal}
-use Rattle.query.proofs.Regions.{openEnd, open-part}
+use Rattle.query.proofs.Regions.{openEnd, open-part, begun-map}
+use Rattle.query.proofs.Listing.{lists-same}
 use Rattle.query.proofs.Coherence.{coherent-length, KeySet, own-key, still-coherent}
 
 module _ (n arcs start limit : ℕ) (w : List ℕ) (ask : Askable n arcs start limit w) where
@@ -115,7 +116,7 @@ module _ (n m arcs start limit : ℕ) (w₀ : List ℕ) (ask : Askable n arcs st
   pub searching-starts : (budget left : ℕ) → Searching n m start limit budget left w hand w 0
   unfolding problemAt
   searching-starts budget left =
-      let same = a .same-map ∙ b .same-map in
+      let same = begun-map b a in
       let again = ask-same n arcs start limit w₀ ask w same (len ∙ len₁) in
       let none : settledAt n m hand w ≡ (λ v. false) = λ i v. none-settled v i in
       let label = is-label n w (omega (arith, ask .holds .room)) start 0 (record { place = place; word = a .label; some = λ q. omega arith }) in
@@ -125,6 +126,7 @@ module _ (n m arcs start limit : ℕ) (w₀ : List ℕ) (ask : Askable n arcs st
         coherent = still-coherent key-set;
         front = rw none (begin-front (problemAt n start w) limit (λ v. costAt (labels n w) v) (again .holds .valid) (again .start-within) label only-start);
         counted = rw none (count-none n);
+        listed = record { few = omega arith; each = λ i l. absurd (omega arith); all = λ v t. absurd (not-both t (none-settled v)) };
         in-budget = omega arith;
         lasts = omega arith;
       }
@@ -153,14 +155,18 @@ module _ {n m arcs start limit budget left : ℕ} {w₀ : List ℕ} {hand : ℕ}
   pub label-below : (v d : ℕ) → costAt (labels n w) v ≡ some d → d < 2 ^ 30
   label-below v d e = omega (arith, end-below (s .front .backed v d e), ask .limit-below)
 
-  -- what a pass over the labelled places' arcs asks
-  pub search-labelled : Labelled n w
-  search-labelled =
+  -- what the pass over the listed places' arcs asks, where no place is open
+  pub search-listed : NoneOpen (λ v. costAt (labels n w) v) (settledAt n m hand w) → Listed n count w
+  search-listed none-open =
       record {
-        arcs = arcs;
-        start = start;
-        holds = holds-same n w w₀ (s .same-map) arcs start (s .same-length) (ask .holds);
-        label-below = label-below;
+        labelled =
+            record {
+              arcs = arcs;
+              start = start;
+              holds = holds-same n w w₀ (s .same-map) arcs start (s .same-length) (ask .holds);
+              label-below = label-below;
+            };
+        places = lists-same (s .front .labelled) (λ v l. none-open v (l .0) (l .1)) (s .listed);
       }
 
   -- the open list as it is lent

@@ -27,7 +27,7 @@ pub cannot-fail : (b : Bool) → (b ≡ false → ⊥) → b ≡ true
 cannot-fail true h = refl
 cannot-fail false h = absurd (h refl)
 
-also-true : (settled : ℕ → Bool) (v u : ℕ) → also settled v u ≡ true → (settled u ≡ true) ⊎ (u ≡ v)
+pub also-true : (settled : ℕ → Bool) (v u : ℕ) → also settled v u ≡ true → (settled u ≡ true) ⊎ (u ≡ v)
 unfolding also
 also-true settled v u h = go (settled u) refl h
   where

@@ -1,7 +1,7 @@
 -- What a query keeps in the area while it searches, and what each of its steps asks and does.
 use mathlib.Core.Path.{_≡_}
 use mathlib.Core.Logic.{_⊎_}
-use mathlib.Core.Bool.{false}
+use mathlib.Core.Bool.{true, false}
 use mathlib.Core.List.{List}
 use mathlib.Core.Option.{none}
 use Prim.Native.Nat.{ℕ, _+_, _*_, _/_, _%_, _^_, _≤_, _<_}
@@ -9,12 +9,12 @@ use lib.ListN.{length, getD, set, drop}
 use Rattle.open_list.specs.Entry.{noKey}
 use Rattle.open_list.specs.Keys.{OpenList, Lowers, Cleared}
 use Rattle.open_list.specs.Size.{Enough}
-use Rattle.map.specs.Layout.{endsAt, estimatesAt, arcsAt, Holds, problemAt}
+use Rattle.map.specs.Layout.{parentsAt, endsAt, estimatesAt, arcsAt, Holds, problemAt}
 use Rattle.model.specs.Limits.{maxPlaces, maxEstimate}
 use Rattle.model.specs.Costs.{costAt}
 use Rattle.model.specs.Query.{nextLimit, notOver}
 use Rattle.query.specs.Front.{Front, countBelow}
-use Rattle.scans.specs.Area.{labels, openWords, keys, settledAt}
+use Rattle.scans.specs.Area.{labels, openWords, keys, settledAt, listedAt, Lists}
 use Rattle.query.specs.Query.{outcomeOf}
 use Rattle.query.specs.declared.Asked.{Asked}
 
@@ -24,9 +24,9 @@ pub record Room (n nodes : ℕ) (w : List ℕ) : Type 0 where
   pub enough : Enough n nodes
   pub words : arcsAt n ≤ length w
 
--- what `clear` leaves: no place has a label, none is open, and the map is as before
+-- what `clear` leaves: no place has a label, none is open, and the words from the parents on are as before
 pub record Blank (n nodes : ℕ) (w₀ w : List ℕ) : Type 0 where
-  pub same-map : drop (endsAt n) w ≡ drop (endsAt n) w₀
+  pub same-rest : drop (parentsAt n) w ≡ drop (parentsAt n) w₀
   pub unlabelled : (v : ℕ) → v < n → getD w v 0 ≡ noKey
   pub none-open : Cleared nodes (openWords n nodes w)
 
@@ -36,9 +36,10 @@ pub record Arrives (n nodes hand v d : ℕ) (w : List ℕ) : Type 0 where
   pub place : v < n
   pub lowers : Lowers nodes hand v d (openWords n nodes w)
 
--- what `arrive` leaves: v is labelled d and open with that key, no other place has another label or key, and the map is as before
+-- what `arrive` leaves: v is labelled d and open with that key, no other place has another label or key, and the words from the parents
+-- on are as before
 pub record Arrived (n nodes v d hand₀ : ℕ) (w₀ : List ℕ) (hand : ℕ) (w : List ℕ) : Type 0 where
-  pub same-map : drop (endsAt n) w ≡ drop (endsAt n) w₀
+  pub same-rest : drop (parentsAt n) w ≡ drop (parentsAt n) w₀
   pub list : OpenList nodes hand (openWords n nodes w)
   pub label : getD w v 0 ≡ d
   pub other-labels : (u : ℕ) → u < n → (u ≡ v → ⊥) → getD w u 0 ≡ getD w₀ u 0
@@ -50,6 +51,22 @@ pub record Coherent (n nodes hand : ℕ) (w : List ℕ) : Type 0 where
   pub list : OpenList nodes hand (openWords n nodes w)
   pub key-label : (v : ℕ) → v < n → (getD (keys n nodes hand w) v 0 ≡ noKey) ⊎ (getD (keys n nodes hand w) v 0 ≡ getD w v 0)
   pub beyond : (v : ℕ) → n ≤ v → v < 7 * nodes + 1 → getD (keys n nodes hand w) v 0 ≡ noKey
+
+-- what `settle` asks
+pub record Settles (n nodes hand count v : ℕ) (w : List ℕ) : Type 0 where
+  pub coherent : Coherent n nodes hand w
+  pub place : v < n
+  pub more : count < n
+
+-- what `settle` leaves: v has no key and is number `count` of the list, no other place has another key, labels and the list so far are as
+-- before, and so is the map
+pub record Settled (n nodes count v hand₀ : ℕ) (w₀ : List ℕ) (hand : ℕ) (w : List ℕ) : Type 0 where
+  pub same-map : drop (endsAt n) w ≡ drop (endsAt n) w₀
+  pub list : OpenList nodes hand (openWords n nodes w)
+  pub label : (u : ℕ) → u < n → getD w u 0 ≡ getD w₀ u 0
+  pub keys-set : keys n nodes hand w ≡ set (keys n nodes hand₀ w₀) v noKey
+  pub listed : listedAt n w count ≡ v
+  pub listed-before : (i : ℕ) → i < count → listedAt n w i ≡ listedAt n w₀ i
 
 -- the arc with the word x, from a place at cost d, gives v the cost e within the limit
 pub record ByArc (n limit d x : ℕ) (w : List ℕ) (v e : ℕ) : Type 0 where
@@ -76,9 +93,9 @@ pub record Stays (n nodes hand₀ : ℕ) (w₀ : List ℕ) (hand : ℕ) (w : Lis
   pub key : getD (keys n nodes hand w) v 0 ≡ getD (keys n nodes hand₀ w₀) v 0
 
 -- Arcs have been relaxed. Where `By v e`, one of them gives v the cost e within the limit: labels are no higher, and those that
--- have changed are of this kind.
+-- have changed are of this kind. The words from the parents on are as before.
 pub record Relaxed (n nodes : ℕ) (By : ℕ → ℕ → Type 0) (hand₀ : ℕ) (w₀ : List ℕ) (hand : ℕ) (w : List ℕ) : Type 0 where
-  pub same-map : drop (endsAt n) w ≡ drop (endsAt n) w₀
+  pub same-rest : drop (parentsAt n) w ≡ drop (parentsAt n) w₀
   pub coherent : Coherent n nodes hand w
   pub reached : (v e : ℕ) → v < n → By v e → getD w v 0 ≤ e
   pub moved : (v : ℕ) → v < n → Stays n nodes hand₀ w₀ hand w v ⊎ Fell n nodes By w₀ hand w v
@@ -107,13 +124,14 @@ pub record Expanding (n nodes limit d end hand₀ : ℕ) (w₀ : List ℕ) (k₀
   pub from : k₀ ≤ k
   pub within : k ≤ end
 
--- the loop of `query`: a uniform-cost search is under way
+-- the loop of `query`: a uniform-cost search is under way, and the settled places are listed
 pub record Searching (n nodes start limit budget left : ℕ) (w₀ : List ℕ) (hand : ℕ) (w : List ℕ) (count : ℕ) : Type 0 where
   pub same-map : drop (endsAt n) w ≡ drop (endsAt n) w₀
   pub same-length : length w ≡ length w₀
   pub coherent : Coherent n nodes hand w
   pub front : Front (problemAt n start w₀) limit (λ v. costAt (labels n w) v) (settledAt n nodes hand w)
   pub counted : countBelow (settledAt n nodes hand w) n ≡ count
+  pub listed : Lists n count (λ v. settledAt n nodes hand w v ≡ true) w
   pub in-budget : count ≤ budget
   pub lasts : count ≤ left
 

@@ -4,9 +4,9 @@ use map::layout;
 ghost use mathlib.Core.Path.{_≡_};
 ghost use mathlib.Core.Bool.{false};
 ghost use Rattle.map.specs.Layout.{rowStart, rowEnd};
-ghost use Rattle.scans.specs.Area.{Labelled};
+ghost use Rattle.scans.specs.Area.{Listed};
 ghost use Rattle.query.specs.Query.{Askable, Answered};
-ghost use Rattle.query.specs.State.{Room, Blank, Arrives, Arrived, Relaxes, ByArc, ByArcs, Relaxed, Expands, AllSettled};
+ghost use Rattle.query.specs.State.{Room, Blank, Arrives, Arrived, Settles, Settled, Relaxes, ByArc, ByArcs, Relaxed, Expands, AllSettled};
 
 // How a query ends: by a number above the limit, by its budget, at a goal, or with nothing left to reach.
 pub enum Outcome {
@@ -46,6 +46,17 @@ fn arrive(work: &mut [u32], n: usize, m: usize, hand: u64, v: usize, d: u32) -> 
     work[v] = d;
     let end = n + open_list::words(m);
     open_list::lower(&mut work[n..end], m, hand, v, d)
+}
+
+// Place v is to be expanded, as number `count`: it is listed, and no longer open. The list lies where the parents will: these are found
+// after the last query.
+fn settle(work: &mut [u32], n: usize, m: usize, hand: u64, count: u32, v: usize) -> u64
+    requires { ⌜ Settles n m hand count v (now work) ⌝ }
+    ensures { λ r. ⌜ Settled n m count v hand (now (work .entry)) r (now (work .exit)) ⌝ }
+{
+    work[layout::parents_at(n) + count as usize] = v as u32;
+    let end = n + open_list::words(m);
+    open_list::close(&mut work[n..end], m, hand, v)
 }
 
 // The arc with the word x, from a place that is expanded at cost d.
@@ -94,10 +105,10 @@ fn answered(outcome: Outcome, count: u32, place: u32) -> Asked
 
 // No place is open: the query ends by the least sum over arcs to places with no label, where there is one.
 fn all_settled(work: &[u32], n: usize, count: u32) -> Asked
-    requires { ⌜ Labelled n (now work) ⌝ }
+    requires { ⌜ Listed n count (now work) ⌝ }
     ensures { λ r. ⌜ AllSettled n count (now (work .entry)) r ⌝ }
 {
-    let next = scans::next_limit(work, n);
+    let next = scans::next_limit(work, n, count as usize);
     if next == NONE {
         return answered(Outcome::None, count, 0);
     }
@@ -137,7 +148,7 @@ pub fn query(work: &mut [u32], size: Map, start: u32, limit: u32, budget: u32, l
                 place: 0,
             };
         }
-        hand = open_list::close(&mut work[n..end], m, hand, place);
+        hand = settle(work, n, m, hand, count, place);
         hand = expand(work, n, m, hand, limit, place, d);
         count += 1;
     }

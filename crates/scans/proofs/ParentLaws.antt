@@ -179,7 +179,7 @@ parenting-start n u end w g e =
     record {
       inside = row-begins n w (g .labelled) u end (g .row) e;
       kept = kept-all n w;
-      so-far = rw (passed-start n w u) (g .so-far);
+      so-far = rw (passed-start n w (rowsBelow n w u) u) (g .so-far);
     }
 
 module _ (n u d k end : ℕ) (w₀ w : List ℕ) (g : Labelled n w₀) (label : costAt (labels n w₀) u ≡ some d)
@@ -197,14 +197,15 @@ module _ (n u d k end : ℕ) (w₀ w : List ℕ) (g : Labelled n w₀) (label : 
       record {
         inside = row-goes-on n u k end w₀ (v .inside) l;
         kept = kept-on n w₀ w (parentStored n u d x w) (v .kept) (stored-kept n u d x w parenting-arc);
-        so-far = rw (passed-step n w₀ u k (v .inside .from-start) (omega (arith, v .inside .room)), same)
-            (parents-step n u d x w parenting-arc below (labels n w₀) (passed n w₀ u k) (labels-kept n w₀ w (v .kept)) label (v .so-far));
+        so-far = rw (passed-step n w₀ (rowsBelow n w₀ u) u k (v .inside .from-start) (omega (arith, v .inside .room)), same)
+            (parents-step n u d x w parenting-arc below (labels n w₀) _ (labels-kept n w₀ w (v .kept)) label (v .so-far));
       }
 
 pub parenting-end : (n u k end : ℕ) (w₀ w : List ℕ) → Parenting n u k end w₀ w → end ≤ k → ParentsBelow n (suc u) w₀ w
+unfolding rowsBelow
 parenting-end n u k end w₀ w v l =
     let at-end : k ≡ rowEnd n w₀ u = omega (arith, v .inside .to-end, v .inside .is-end) in
-    let over : ParentsOver n (labels n w₀) (rowsBelow n w₀ (suc u)) u w = rw (← passed-end n w₀ u, ← at-end) (v .so-far) in
+    let over : ParentsOver n (labels n w₀) (rowsBelow n w₀ (suc u)) u w = rw (← passed-end n w₀ (rowsBelow n w₀ u) u, ← at-end) (v .so-far) in
     record { kept = v .kept; so-far = above-next n u (labels n w₀) (rowsBelow n w₀ (suc u)) w over }
 
 -- ---- all rows

@@ -1,22 +1,25 @@
 -- The rows of arcs of labelled places in the words of the area: the arc at an index, the arcs passed, and that all depends on the words
 -- of labels and map. Assumes nothing.
 use mathlib.Core.Path.{_≡_, refl, sym, ap, _∙_}
+use mathlib.Core.Logic.{⊎-elim}
 use mathlib.Core.List.{List, [], _∷_, _++_, append-nil, append-assoc, map-append}
+use mathlib.Core.List.{List·Memᴰ, List·Memᴰ·not-nil, List·Memᴰ·append-cases, Memᴰ·append-left, Memᴰ·append-right}
 use mathlib.Core.Option.{Option, none, some}
 use Prim.Native.Nat.{ℕ, zero, suc, _+_, _-_, _/_, _≤_, _<_}
+use native.Mathlib.Decide.{ℕ-discrete}
 use native.Mathlib.Omega.{arith}
 use lib.ListN.{length, getD, take, drop, length-drop}
 use lib.Seq.{getD-drop, take-suc}
 use borrow.Author.Tests.{lt-ltb}
 use Rattle.open_list.specs.Entry.{noKey}
-use Rattle.map.proofs.Held.{start-same, end-same, holds-same, at-arc}
+use Rattle.map.proofs.Held.{start-same, end-same, holds-same, member-at, at-arc}
 use Rattle.map.specs.Layout.{endsAt, arcsAt, rowStart, rowEnd, arcIn, row, rowsBelow, problemAt}
 use Rattle.model.specs.Costs.{costAt}
 use Rattle.model.specs.Limits.{maxPlaces}
 use Rattle.model.specs.Lists.{filterMap}
 use Rattle.model.specs.Problem.{Problem, Arc, IsArc}
-use Rattle.scans.specs.Area.{labels, Labelled, HasRow}
-use Rattle.scans.specs.Scans.{passed, InRow, ArcWord, Kept}
+use Rattle.scans.specs.Area.{labels, listedAt, Labelled, HasRow}
+use Rattle.scans.specs.Scans.{passed, rowsListed, InRow, ArcWord, Kept}
 use Rattle.scans.proofs.Words.{wordOr-some, label-at}
 use Rattle.scans.proofs.Least.{filterMap-nothing}
 
@@ -27,19 +30,19 @@ row-start-after n w zero h = absurd (h refl)
 row-start-after n w (suc v) h = ap (λ (i : ℕ). getD w i 0) (omega arith)
 
 -- ---- the arcs passed
-module _ (n : ℕ) (w : List ℕ) (u : ℕ) where
-  pub passed-start : passed n w u (rowStart n w u) ≡ rowsBelow n w u
+module _ (n : ℕ) (w : List ℕ) (done : List Arc) (u : ℕ) where
+  pub passed-start : passed n w done u (rowStart n w u) ≡ done
   unfolding passed
   passed-start =
       let nothing : rowStart n w u - rowStart n w u ≡ 0 = omega arith in
       rw (nothing, append-nil)
 
-  pub passed-end : passed n w u (rowEnd n w u) ≡ rowsBelow n w (suc u)
-  unfolding passed rowsBelow row
+  pub passed-end : passed n w done u (rowEnd n w u) ≡ done ++ row n w u
+  unfolding passed row
   passed-end = refl
 
   pub passed-step : (k : ℕ) → rowStart n w u ≤ k → arcsAt n + k < length w
-      → passed n w u (k + 1) ≡ passed n w u k ++ (arcIn u (getD w (arcsAt n + k) 0) ∷ [])
+      → passed n w done u (k + 1) ≡ passed n w done u k ++ (arcIn u (getD w (arcsAt n + k) 0) ∷ [])
   unfolding passed
   passed-step k h l =
       let s : ℕ = rowStart n w u in
@@ -48,13 +51,39 @@ module _ (n : ℕ) (w : List ℕ) (u : ℕ) where
       let place : arcsAt n + s + (k - s) ≡ arcsAt n + k = omega arith in
       let inside : k - s < length rest = simp length-drop (omega arith) in
       let word : getD rest (k - s) 0 ≡ getD w (arcsAt n + k) 0 = getD-drop (arcsAt n + s) w (k - s) 0 ∙ ap (λ (i : ℕ). getD w i 0) place in
-      rw (more, take-suc rest (k - s) 0 inside, word, map-append) (sym (append-assoc (rowsBelow n w u) _ _))
+      rw (more, take-suc rest (k - s) 0 inside, word, map-append) (sym (append-assoc done _ _))
 
-  -- a row of whose arcs f gives nothing adds nothing
-  pub row-nothing : (f : Arc → Option ℕ) → ((x : ℕ) → f (arcIn u x) ≡ none) → filterMap f (rowsBelow n w (suc u)) ≡ filterMap f (rowsBelow n w u)
-  unfolding rowsBelow row
-  row-nothing f h =
-      filterMap-nothing f (arcIn u) h (rowsBelow n w u) (take (rowEnd n w u - rowStart n w u) (drop (arcsAt n + rowStart n w u) w))
+-- a row of whose arcs f gives nothing adds nothing
+pub row-nothing : (n : ℕ) (w : List ℕ) (u : ℕ) (f : Arc → Option ℕ) → ((x : ℕ) → f (arcIn u x) ≡ none)
+    → filterMap f (rowsBelow n w (suc u)) ≡ filterMap f (rowsBelow n w u)
+unfolding rowsBelow row
+row-nothing n w u f h =
+    filterMap-nothing f (arcIn u) h (rowsBelow n w u) (take (rowEnd n w u - rowStart n w u) (drop (arcsAt n + rowStart n w u) w))
+
+-- an arc of a row leaves the row's place
+pub row-from : (n : ℕ) (w : List ℕ) (u : ℕ) (a : Arc) → List·Memᴰ a (row n w u) → a .from ≡ u
+unfolding row arcIn
+row-from n w u a m =
+    let words = take (rowEnd n w u - rowStart n w u) (drop (arcsAt n + rowStart n w u) w) in
+    ap (λ (b : Arc). b .from) (member-at (arcIn u) 0 words a m .2)
+
+-- ---- the rows of the listed places
+module _ (n : ℕ) (w : List ℕ) where
+  pub listed-of : (k : ℕ) (a : Arc) → List·Memᴰ a (rowsListed n w k) → (i : ℕ) × (i < k) × List·Memᴰ a (row n w (listedAt n w i))
+  unfolding rowsListed
+  listed-of zero a m = absurd (List·Memᴰ·not-nil m)
+  listed-of (suc k) a m =
+      ⊎-elim (λ j. let r = listed-of k a j in (r .0, omega (arith, r .1), r .2)) (λ j. (k, omega arith, j))
+      (List·Memᴰ·append-cases (rowsListed n w k) m)
+
+  pub of-listed : (k : ℕ) (a : Arc) (i : ℕ) → i < k → List·Memᴰ a (row n w (listedAt n w i)) → List·Memᴰ a (rowsListed n w k)
+  unfolding rowsListed
+  of-listed zero a i h m = absurd (omega arith)
+  of-listed (suc k) a i h m = go (ℕ-discrete i k) (λ l. of-listed k a i l m)
+    where
+      go : Dec (i ≡ k) → (i < k → List·Memᴰ a (rowsListed n w k)) → List·Memᴰ a (rowsListed n w k ++ row n w (listedAt n w k))
+      go (yes q) rest = Memᴰ·append-right (rowsListed n w k) (rw q at m)
+      go (no q) rest = Memᴰ·append-left (row n w (listedAt n w k)) (rest (omega arith))
 
 -- ---- rows and labels of a labelled area
 module _ (n : ℕ) (w : List ℕ) (g : Labelled n w) where

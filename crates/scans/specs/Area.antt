@@ -1,4 +1,5 @@
--- What a search keeps in the work area beside the map: a label for each place, the open list, and a parent for each place.
+-- What a search keeps in the work area beside the map: a label for each place, the open list, and a parent for each place; where the
+-- parents will be, a list of the places that are expanded.
 use mathlib.Core.Path.{_≡_}
 use mathlib.Core.Bool.{Bool, cond, not, _&&_}
 use mathlib.Core.List.{List, [], _∷_, _++_, map}
@@ -35,6 +36,16 @@ unfoldable pub settledAt : ℕ → ℕ → ℕ → List ℕ → ℕ → Bool
 settledAt n nodes hand w v =
     ltb v n && (not (eqb (getD w v 0) noKey) && eqb (getD (keys n nodes hand w) v 0) noKey)
 
+-- place number i of the list of expanded places, which lies where the parents will
+unfoldable pub listedAt : ℕ → List ℕ → ℕ → ℕ
+listedAt n w i = getD w (parentsAt n + i) 0
+
+-- the first `count` places of the list are just those of which `Is` holds
+pub record Lists (n count : ℕ) (Is : ℕ → Type 0) (w : List ℕ) : Type 0 where
+  pub few : count ≤ n
+  pub each : (i : ℕ) → i < count → Is (listedAt n w i)
+  pub all : (v : ℕ) → Is v → (i : ℕ) × (i < count) × (listedAt n w i ≡ v)
+
 -- the parent of a place, as the words have it
 unfoldable pub parentAt : ℕ → List ℕ → ℕ → Option ℕ
 parentAt n w v = wordOr (getD w (parentsAt n + v) noKey)
@@ -56,6 +67,11 @@ pub record Labelled (n : ℕ) (w : List ℕ) : Type 0 where
   pub start : ℕ
   pub holds : Holds n arcs start w
   pub label-below : (v d : ℕ) → costAt (labels n w) v ≡ some d → d < 2 ^ 30
+
+-- What the pass for the next limit asks besides: just the places that have a label are listed.
+pub record Listed (n count : ℕ) (w : List ℕ) : Type 0 where
+  pub labelled : Labelled n w
+  pub places : Lists n count (λ v. (d : ℕ) × (costAt (labels n w) v ≡ some d)) w
 
 -- The number with which a query ends, as the definition has it on the table of labels; the largest word where there is none.
 -- The start has no part in it.

@@ -1,24 +1,29 @@
 -- What the passes over the arcs of labelled places ask of the area, and what they keep while under way.
 use mathlib.Core.Path.{_≡_}
 use mathlib.Core.Bool.{cond, _&&_}
-use mathlib.Core.List.{List, _++_, map}
+use mathlib.Core.List.{List, [], _++_, map}
 use mathlib.Core.Option.{Option, some}
-use Prim.Native.Nat.{ℕ, _+_, _-_, _/_, _%_, _^_, _≤_, _<_}
+use Prim.Native.Nat.{ℕ, zero, suc, _+_, _-_, _/_, _%_, _^_, _≤_, _<_}
 use lib.Dec.{eqb, ltb}
 use lib.ListN.{length, getD, take, drop, set}
 use Rattle.open_list.specs.Entry.{noKey}
-use Rattle.map.specs.Layout.{parentsAt, endsAt, estimatesAt, arcsAt, rowStart, rowEnd, rowsBelow, arcIn, problemAt}
+use Rattle.map.specs.Layout.{parentsAt, endsAt, estimatesAt, arcsAt, rowStart, rowEnd, row, rowsBelow, arcIn, problemAt}
 use Rattle.model.specs.Costs.{Table, costAt}
 use Rattle.model.specs.Limits.{maxPlaces, maxEstimate}
 use Rattle.model.specs.Lists.{filterMap, least, lesser}
 use Rattle.model.specs.Problem.{Arc}
 use Rattle.model.specs.Query.{crossing}
 use Rattle.model.specs.Routes.{parentBy}
-use Rattle.scans.specs.Area.{wordOr, labels, HasRow, Labelled}
+use Rattle.scans.specs.Area.{wordOr, labels, listedAt, HasRow, Labelled}
 
--- the arcs passed: the rows of the places below u, and u's own row up to, not including, arc k
-unfoldable pub passed : ℕ → List ℕ → ℕ → ℕ → List Arc
-passed n w u k = rowsBelow n w u ++ map (arcIn u) (take (k - rowStart n w u) (drop (arcsAt n + rowStart n w u) w))
+-- the arcs passed: those of the rows that are done, and u's own row up to, not including, arc k
+unfoldable pub passed : ℕ → List ℕ → List Arc → ℕ → ℕ → List Arc
+passed n w done u k = done ++ map (arcIn u) (take (k - rowStart n w u) (drop (arcsAt n + rowStart n w u) w))
+
+-- the rows of the first k places of the list
+unfoldable pub rowsListed : ℕ → List ℕ → ℕ → List Arc
+rowsListed n w zero = []
+rowsListed n w (suc k) = rowsListed n w k ++ row n w (listedAt n w k)
 
 -- under way in the row of u, which ends at `end`, before its arc k
 pub record InRow (n u k end : ℕ) (w : List ℕ) : Type 0 where
@@ -48,21 +53,25 @@ pub record Crossed (n d x least : ℕ) (w : List ℕ) (r : ℕ) : Type 0 where
 pub record LimitOver (n : ℕ) (w : List ℕ) (arcs : List Arc) (r : ℕ) : Type 0 where
   pub least-sum : (start : ℕ) → wordOr r ≡ least (filterMap (sumOf n start w) arcs)
 
--- the rows of the places below u are passed, and the row of u comes next
-pub record LimitRow (n u least : ℕ) (w : List ℕ) : Type 0 where
+-- u, whose row comes next, has a label
+pub record LimitRow (n u : ℕ) (w : List ℕ) : Type 0 where
   pub labelled : Labelled n w
   pub row : HasRow n u w
-  pub so-far : LimitOver n w (rowsBelow n w u) least
+  pub label : costAt (labels n w) u ≡ some (getD w u 0)
+
+-- r holds the least sum over the row of u and whatever arcs `least` holds it over
+pub record LimitByRow (n u least : ℕ) (w : List ℕ) (r : ℕ) : Type 0 where
+  pub over : (done : List Arc) → LimitOver n w done least → LimitOver n w (done ++ row n w u) r
 
 -- under way in the row of u
-pub record Limiting (n u k end least : ℕ) (w : List ℕ) : Type 0 where
+pub record Limiting (n u k end least : ℕ) (w : List ℕ) (r : ℕ) : Type 0 where
   pub inside : InRow n u k end w
-  pub so-far : LimitOver n w (passed n w u k) least
+  pub so-far : (done : List Arc) → LimitOver n w done least → LimitOver n w (passed n w done u k) r
 
--- under way before the row of u
-pub record LimitUpTo (n u least : ℕ) (w : List ℕ) : Type 0 where
-  pub to-end : u ≤ n
-  pub so-far : LimitOver n w (rowsBelow n w u) least
+-- under way before the row of place number i of the list
+pub record LimitUpTo (n count i least : ℕ) (w : List ℕ) : Type 0 where
+  pub to-end : i ≤ count
+  pub so-far : LimitOver n w (rowsListed n w i) least
 
 -- the words after the arc with the word x, from u with the label d
 unfoldable pub parentStored : ℕ → ℕ → ℕ → ℕ → List ℕ → List ℕ
@@ -101,7 +110,7 @@ pub record ParentsBelow (n u : ℕ) (w₀ w : List ℕ) : Type 0 where
 pub record Parenting (n u k end : ℕ) (w₀ w : List ℕ) : Type 0 where
   pub inside : InRow n u k end w₀
   pub kept : Kept n w₀ w
-  pub so-far : ParentsOver n (labels n w₀) (passed n w₀ u k) u w
+  pub so-far : ParentsOver n (labels n w₀) (passed n w₀ (rowsBelow n w₀ u) u k) u w
 
 -- under way before the row of u
 pub record ParentsUpTo (n u : ℕ) (w₀ w : List ℕ) : Type 0 where

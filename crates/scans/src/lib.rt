@@ -2,9 +2,9 @@
 use map::layout;
 ghost use mathlib.Core.Path.{_≡_};
 ghost use Prim.Native.Nat.{suc};
-ghost use Rattle.map.specs.Layout.{rowStart, rowsBelow};
-ghost use Rattle.scans.specs.Area.{HasRow, Labelled, IsNextLimit, HasParents};
-ghost use Rattle.scans.specs.Scans.{ArcWord, Crossed, LimitOver, LimitRow, parentStored, ParentsRow, ParentsBelow};
+ghost use Rattle.map.specs.Layout.{rowStart};
+ghost use Rattle.scans.specs.Area.{HasRow, Labelled, Listed, IsNextLimit, HasParents};
+ghost use Rattle.scans.specs.Scans.{ArcWord, Crossed, LimitRow, LimitByRow, parentStored, ParentsRow, ParentsBelow};
 
 const NONE: u32 = open_list::NONE;
 
@@ -25,22 +25,17 @@ fn crossing(work: &[u32], n: usize, d: u32, x: u32, least: u32) -> u32
     ensures { λ r. ⌜ Crossed n d x least (now (work .entry)) r ⌝ }
 {
     let v = (x / layout::END) as usize;
-    if work[v] != NONE {
-        return least;
-    }
     let sum = d + x % layout::END + work[layout::estimates_at(n) + v];
-    if sum < least { sum } else { least }
+    let out = if work[v] == NONE { sum } else { NONE };
+    if out < least { out } else { least }
 }
 
-// The least sum over the arcs of u to places with no label, or `least` where that is less or u has no label.
+// The least sum over the arcs of u, which has a label, to places with none, or `least` where that is less.
 fn row_limit(work: &[u32], n: usize, u: usize, least: u32) -> u32
-    requires { ⌜ LimitRow n u least (now work) ⌝ }
-    ensures { λ r. ⌜ LimitOver n (now (work .entry)) (rowsBelow n (now (work .entry)) (suc u)) r ⌝ }
+    requires { ⌜ LimitRow n u (now work) ⌝ }
+    ensures { λ r. ⌜ LimitByRow n u least (now (work .entry)) r ⌝ }
 {
     let d = work[u];
-    if d == NONE {
-        return least;
-    }
     let mut best = least;
     let mut k = row_start(work, n, u);
     let end = work[layout::ends_at(n) + u] as usize;
@@ -52,16 +47,17 @@ fn row_limit(work: &[u32], n: usize, u: usize, least: u32) -> u32
     best
 }
 
-// The number with which a query ends, or NONE.
-pub fn next_limit(work: &[u32], n: usize) -> u32
-    requires { ⌜ Labelled n (now work) ⌝ }
+// The number with which a query ends, or NONE: by the rows of the places that it expanded, which are listed where the parents will be.
+pub fn next_limit(work: &[u32], n: usize, count: usize) -> u32
+    requires { ⌜ Listed n count (now work) ⌝ }
     ensures { λ r. ⌜ IsNextLimit n (now (work .entry)) r ⌝ }
 {
     let mut best = NONE;
-    let mut u = 0;
-    while u < n {
+    let mut i = 0;
+    while i < count {
+        let u = work[layout::parents_at(n) + i] as usize;
         best = row_limit(work, n, u, best);
-        u += 1;
+        i += 1;
     }
     best
 }

@@ -1,5 +1,5 @@
--- The invariant of the loop: a uniform-cost search is under way, and count places are settled, at most as many as the budget and the
--- allowance. The measure is the number of places that are not settled. Assumes nothing.
+-- The invariant of the loop: a uniform-cost search is under way, and count places are settled and listed, at most as many as the budget and
+-- the allowance. The measure is the number of places that are not settled. Assumes nothing.
 use mathlib.Core.Path.{_≡_, _∙_}
 use Prim.Native.Nat.{ℕ, _-_}
 use native.Mathlib.Omega.{arith}
@@ -9,8 +9,11 @@ use Rattle.area.specs.Part.{part}
 use Rattle.open_list.specs.Keys.{Least, keysOf}
 use Rattle.open_list.specs.Size.{wordsOf}
 use Rattle.map.specs.Layout.{endsAt}
+use Rattle.model.specs.Costs.{costAt}
+use Rattle.scans.specs.Area.{labels, settledAt}
+use Rattle.query.specs.Front.{NoneOpen}
 use Rattle.query.specs.State.{Searching}
-use Rattle.query.proofs.Regions.{openEnd}
+use Rattle.query.proofs.Regions.{openEnd, begun-map}
 use Rattle.query.proofs.QueryUnderway as underway
 use Rattle.query.proofs.QueryUnderway.{Underway, Taken}
 use Rattle.query.proofs.Expansions as expansions
@@ -38,7 +41,7 @@ size c = c .before .before .before .before .before .before .before .before .befo
 -- The loop begins over words with the map that was there at entry.
 same-map : (c : tie.After-slice-known3 Inv-loop μ-loop)
     → drop (endsAt (entry c .args .size .places)) (c .before .before .arrive .last .0) ≡ drop (endsAt (entry c .args .size .places)) (now (entry c .args .work))
-same-map c = c .before .before .arrive .ensures .same-map ∙ c .before .before .before .before .before .before .before .clear .ensures .same-map
+same-map c = begun-map (c .before .before .before .before .before .before .before .clear .ensures) (c .before .before .arrive .ensures)
 
 abbrev Under-at : tie.At-loop Inv-loop μ-loop → Type 0
 Under-at c =
@@ -67,6 +70,19 @@ Taken-at c =
 
 taken : (c : tie.Else1 Inv-loop μ-loop) → Taken-at c
 taken c = underway.taken (under (c .before .before .before .before .before .before)) _ _ (first (c .before)) (omega (arith, c .if1 .left))
+
+abbrev None-at : tie.Then1 Inv-loop μ-loop → Type 0
+None-at c =
+    let loop = c .before .before .before .before .before .before in
+    let n = entry (loop .before) .args .size .places in
+    NoneOpen (λ v. costAt (labels n (loop .loop .work)) v) (settledAt n (nodes (loop .before)) (loop .loop .hand) (loop .loop .work))
+
+none-open : (c : tie.Then1 Inv-loop μ-loop) → None-at c
+none-open c = underway.none-open (under (c .before .before .before .before .before .before)) _ _ (first (c .before)) (omega (arith, c .if1 .taken))
+
+-- where a place is to be expanded, the first was taken
+abbrev turn : tie.Else4 Inv-loop μ-loop → tie.Else1 Inv-loop μ-loop
+turn c = c .before .before .before .before .before
 
 nodes-requires : tie.Need-nodes-requires Inv-loop μ-loop
 nodes-requires c κs = underway.ask-places _ _ _ _ _ (c .before .pre)
@@ -120,17 +136,16 @@ cast-place : tie.Need-cast-place Inv-loop μ-loop
 cast-place c = search needs
 
 all-settled-requires : tie.Need-all-settled-requires Inv-loop μ-loop
-all-settled-requires c κs = underway.search-labelled (under (c .before .before .before .before .before .before .before))
+all-settled-requires c κs = underway.search-listed (under (c .before .before .before .before .before .before .before)) (none-open (c .before))
 
 same-length : tie.Need-same-length Inv-loop μ-loop
 same-length c = search needs
 
 returns : tie.Need-returns Inv-loop μ-loop
-unfolding part
 returns c =
     let search = under (c .before .before .before .before .before .before .before .before) in
-    let none = underway.none-open search _ _ (first (c .before .before .before)) (omega (arith, c .before .before .if1 .taken)) in
-    answers.answered-same _ _ _ _ _ _ _ _ _ (same-map (c .before .before .before .before .before .before .before .before .before)) (answers.answered-settled search none _ (c .all-settled .ensures))
+    let answered = answers.answered-settled search (none-open (c .before .before)) _ (c .all-settled .ensures) in
+    answers.answered-same _ _ _ _ _ _ _ _ _ (same-map (c .before .before .before .before .before .before .before .before .before)) answered
 
 goals-at-requires : tie.Need-goals-at-requires Inv-loop μ-loop
 goals-at-requires c κs = search needs
@@ -182,49 +197,31 @@ returns-4 c =
     let no-goal = underway.taken-no-goal t _ (c .before .before .before .before .goals-at .ensures) (c .before .before .if2 .left) in
     answers.answered-same _ _ _ _ _ _ _ _ _ (same-map (c .before .before .before .before .before .before .before .before .before .before .before .before)) (answers.answered-spent (t .under) (t .first) no-goal (c .before .if3 .left) (c .if4 .taken))
 
-mul-close : tie.Need-mul-close Inv-loop μ-loop
-mul-close c = search needs
-
-sub-close : tie.Need-sub-close Inv-loop μ-loop
-sub-close c = search needs
-
-part-close-start : tie.Need-part-close-start Inv-loop μ-loop
-part-close-start c = search needs
-
-part-close-end : tie.Need-part-close-end Inv-loop μ-loop
-part-close-end c = search needs
-
-close-requires : tie.Need-close-requires Inv-loop μ-loop
-unfolding part
-close-requires c κs =
-    let turn = c .before .before .before .before .before .before in
-    let t = taken turn in
-    rw (size (turn .before .before .before .before .before .before .before)) (expansions.close-asked _ _ _ _ _ (t .under .search .coherent) (t .place))
+settle-requires : tie.Need-settle-requires Inv-loop μ-loop
+settle-requires c κs = expansions.turn-settles (taken (turn (c .before)))
 
 expand-requires : tie.Need-expand-requires Inv-loop μ-loop
-unfolding part
 expand-requires c κs =
-    let close = c .before .before .before .close in
-    let turn = c .before .before .before .before .before .before .before .before .before .before in
-    let is = size (turn .before .before .before .before .before .before .before) in
-    rw is (expansions.turn-expands (taken turn) _ _ (rw is at (close .kept .0)) (rw is at (close .ensures)))
+    let settle = c .before .before .before .settle in
+    expansions.turn-expands (taken (turn (c .before .before .before .before .before))) _ _ (settle .ensures) (settle .kept .0)
 
 add-count : tie.Need-add-count Inv-loop μ-loop
-add-count c = omega (arith, under (c .before .before .before .before .before .before .before .before .before .before .before .before .before .before .before .before .before .before .before) .search .lasts, c .before .before .before .before .before .before .before .before .if4 .left, c .before .before .before .before .before .before .before .before .before .before .before .before .before .before .before .before .before .before .before .before .before .before .before .before .before .before .before .before .before .before .before .before .fits .left)
+add-count c =
+    let t = taken (turn (c .before .before .before .before .before .before .before .before)) in
+    omega (arith, expansions.count-below t, t .under .search .coherent .room .few)
 
 loop-less : tie.Need-loop-less Inv-loop μ-loop
-loop-less c = omega (arith, expansions.count-below (taken (c .before .before .before .before .before .before .before .before .before .before .before .before .before)))
+loop-less c = omega (arith, expansions.count-below (taken (turn (c .before .before .before .before .before .before .before .before))))
 
 loop-again : tie.Need-loop-again Inv-loop μ-loop
-unfolding part
 loop-again c =
-    let close = c .before .before .before .before .before .before .close in
+    let here = c .before .before .before .before .before .before .before .before in
+    let settle = c .before .before .before .before .before .before .settle in
     let expand = c .before .before .expand in
-    let turn = c .before .before .before .before .before .before .before .before .before .before .before .before .before in
-    let t = taken turn in
-    let is = size (turn .before .before .before .before .before .before .before) in
-    let no-goal = underway.taken-no-goal t _ (c .before .before .before .before .before .before .before .before .before .before .before .before .goals-at .ensures) (c .before .before .before .before .before .before .before .before .before .before .if2 .left) in
-    expansions.searching-on t _ _ (rw is at (close .kept .0)) (rw is at (close .ensures)) no-goal _ _ (rw is at (expand .ensures)) (rw is at (expand .kept .0)) (c .before .before .before .before .before .before .before .before .before .if3 .left) (c .before .before .before .before .before .before .before .before .if4 .left)
+    let t = taken (turn here) in
+    let no-goal = underway.taken-no-goal t _ (here .before .before .before .before .goals-at .ensures) (here .before .before .if2 .left) in
+    expansions.searching-on t _ _ (settle .ensures) (settle .kept .0) no-goal _ _ (expand .ensures) (expand .kept .0)
+    (here .before .if3 .left) (here .if4 .left)
 
 pub query-spec : {M : Type 1} → statement M
 query-spec =
@@ -263,11 +260,7 @@ query-spec =
     returns-3
     same-length-4
     returns-4
-    mul-close
-    sub-close
-    part-close-start
-    part-close-end
-    close-requires
+    settle-requires
     expand-requires
     add-count
     loop-less

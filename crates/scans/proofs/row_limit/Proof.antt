@@ -1,17 +1,17 @@
--- The invariant of the loop: best is the least sum over the rows before that of u and the arcs of u before arc k.
+-- The invariant of the loop: best is the least sum over the arcs of u before arc k and whatever arcs `least` is the least over.
 -- The measure is what is left of the row. Assumes nothing.
 use Prim.Native.Nat.{_+_, _-_}
 use native.Mathlib.Omega.{arith}
 use borrow.Author.Needs.{needs}
 use Rattle.map.specs.Layout.{rowEnd}
 use Rattle.scans.specs.Scans.{Limiting}
-use Rattle.scans.proofs.Rows.{word-label, arc-word}
-use Rattle.scans.proofs.NextLimit.{no-sums, limiting-start, limiting-step, limiting-end}
+use Rattle.scans.proofs.Rows.{arc-word}
+use Rattle.scans.proofs.NextLimit.{limiting-start, limiting-step, limiting-end}
 use Rattle.scans.proofs.row_limit.Statement.{statement}
 use Rattle.scans.proofs.row_limit.Tie as tie
 
 abbrev Inv-loop : tie.InvT-loop
-Inv-loop work n u least d best₀ k₀ end best k = Limiting n u k end best work
+Inv-loop work n u least d best₀ k₀ end best k = Limiting n u k end least work best
 
 abbrev μ-loop : tie.MeasureT-loop
 μ-loop work n u least d best₀ k₀ end best k = end - k
@@ -21,9 +21,6 @@ mul-d c = search needs
 
 shared-slice-read-d : tie.Need-shared-slice-read-d Inv-loop μ-loop
 shared-slice-read-d c = search needs
-
-returns : tie.Need-returns Inv-loop μ-loop
-returns c = no-sums _ _ _ _ (c .before .before .before .pre) (c .if1 .taken)
 
 row-start-requires : tie.Need-row-start-requires Inv-loop μ-loop
 row-start-requires c κs = search needs
@@ -41,12 +38,12 @@ shared-slice-read-end : tie.Need-shared-slice-read-end Inv-loop μ-loop
 shared-slice-read-end c = search needs
 
 cast-end : tie.Need-cast-end Inv-loop μ-loop
-cast-end c = omega (arith, c .shared-slice-known3 .given (c .before .ends-at .result + c .before .before .before .before .before .before .args .u))
+cast-end c = omega (arith, c .shared-slice-known3 .given (c .before .ends-at .result + c .before .before .before .before .before .args .u))
 
 loop-holds : tie.Need-loop-holds Inv-loop μ-loop
 unfolding rowEnd
 loop-holds c =
-    let start = c .before .before .before .before .before .before in
+    let start = c .before .before .before .before .before in
     rw (c .before .before .row-start .ensures) (limiting-start _ _ _ _ _ (start .pre) (rw (c .before .ends-at .ensures)))
 
 arcs-at-requires : tie.Need-arcs-at-requires Inv-loop μ-loop
@@ -63,11 +60,9 @@ shared-slice-read-x c = search needs
 
 crossing-requires : tie.Need-crossing-requires Inv-loop μ-loop
 crossing-requires c κs =
-    let start = c .before .before .before .before .before .before .before .before .before .before in
-    let has-label = c .before .before .before .before .before .before .before .if1 .left in
-    let label = word-label _ _ (start .pre .labelled) _ (start .pre .row .place) has-label in
+    let pre = c .before .before .before .before .before .before .before .before .before .pre in
     let inside = c .before .before .before .loop .inv .inside in
-    rw (c .before .arcs-at .ensures) (arc-word _ _ (start .pre .labelled) _ _ _ _ label inside (c .before .before .loop-test .taken))
+    rw (c .before .arcs-at .ensures) (arc-word _ _ (pre .labelled) _ _ _ _ (pre .label) inside (c .before .before .loop-test .taken))
 
 add-k : tie.Need-add-k Inv-loop μ-loop
 add-k c = search needs
@@ -77,15 +72,13 @@ loop-less c = search needs
 
 loop-again : tie.Need-loop-again Inv-loop μ-loop
 loop-again c =
-    let start = c .before .before .before .before .before .before .before .before .before .before .before in
-    let has-label = c .before .before .before .before .before .before .before .before .if1 .left in
-    let label = word-label _ _ (start .pre .labelled) _ (start .pre .row .place) has-label in
+    let start = c .before .before .before .before .before .before .before .before .before .before in
     let arc = rw (c .before .before .arcs-at .ensures) at (c .crossing .ensures) in
     let loop = c .before .before .before .before .loop in
-    limiting-step _ _ _ _ _ _ _ _ (start .pre .labelled) label (loop .inv) (c .before .before .before .loop-test .taken) arc
+    limiting-step _ _ _ _ _ _ _ _ (start .pre) (loop .inv) (c .before .before .before .loop-test .taken) arc
 
-returns-2 : tie.Need-returns-2 Inv-loop μ-loop
-returns-2 c = limiting-end _ _ _ _ _ _ (c .before .loop .inv) (c .loop-test .left)
+returns : tie.Need-returns Inv-loop μ-loop
+returns c = limiting-end _ _ _ _ _ _ _ (c .before .loop .inv) (c .loop-test .left)
 
 pub row-limit-spec : {M : Type 1} → statement M
 row-limit-spec =
@@ -95,7 +88,6 @@ row-limit-spec =
     μ-loop
     mul-d
     shared-slice-read-d
-    returns
     row-start-requires
     ends-at-requires
     add-end
@@ -111,4 +103,4 @@ row-limit-spec =
     add-k
     loop-less
     loop-again
-    returns-2)
+    returns)
