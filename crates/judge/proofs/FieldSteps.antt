@@ -10,11 +10,11 @@ use lib.ListN.{length, getD, drop}
 use borrow.Author.Tests.{eq-eqb, ne-eqb}
 use Rattle.map.specs.declared.record.Read.the-variants.{Whole}
 use Rattle.map.specs.declared.record as declared
-use Rattle.map.specs.Records.{readAt, recordIn}
+use Rattle.map.specs.Records.{readAt, recordIn, EndsByKind}
 use Rattle.judge.specs.Fields.{arcAt, estimateAt, Noted, noted, nothing, outsideOf, withArc, withEstimate, note, Fitting, Ready, Walked, Checked}
 use Rattle.judge.proofs.Flags.{any-map}
 use Rattle.map.proofs.Records.{frame-whole}
-use Rattle.map.proofs.Misfits.{arc-length, estimate-length}
+use Rattle.map.proofs.Misfits.{arc-length, estimate-length, ends-by-kind}
 use Rattle.map.proofs.Bodies.{ArcRead, EstimateRead, arc-read, estimate-read}
 use Rattle.judge.proofs.Marks.{mark-two, twice-repeats}
 use Rattle.judge.proofs.FieldLaws.{arc-outside-noted, estimate-outside-noted, free-noted, large-noted, marks-noted, twice-noted}
@@ -95,6 +95,12 @@ module _ (input : List ℕ) (n : ℕ) (marks₀ : List ℕ) (at : ℕ) (p : Note
 
   pub walk-fitting : n ≤ 4096 → Fitting input n r
   walk-fitting few = record { fits = first-fits .0; few = few }
+
+  pub walk-ends : EndsByKind r
+  walk-ends =
+      let is = frame-whole input at (w .inside) r found in
+      let fits = first-fits .0 in
+      ends-by-kind input r (is .forward) (is .ends) (λ e. arc-length (recordIn input r) e fits) (λ e. estimate-length (recordIn input r) e fits)
 
   pub walk-again : (q : Noted) → q ≡ note n p (recordIn input r) → Walked input n marks₀ (r .end) q
   unfolding push

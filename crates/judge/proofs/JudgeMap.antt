@@ -7,7 +7,7 @@ use Prim.Native.Nat.{ℕ, zero, suc, _+_, _≤_}
 use native.Mathlib.Omega.{arith}
 use lib.Dec.{ltb, eqb}
 use lib.ListN.{length, getD, drop, replicate, length-drop}
-use borrow.Author.Tests.{ltb-false, not-false, eqb-true}
+use borrow.Author.Tests.{not-false, eqb-true, eq-eqb, ne-eqb}
 use Rattle.map.specs.declared.Map.{Map}
 use Rattle.judge.specs.declared.Judgement.the-variants.{Refused}
 use Rattle.judge.specs.declared.survey.Survey.{Survey}
@@ -15,9 +15,11 @@ use Rattle.judge.specs.declared.fields.Fields.{Fields}
 use Rattle.judge.specs.Judge.{Judged}
 use Rattle.judge.specs.Survey.{lastBody, Surveyed}
 use Rattle.judge.specs.Fields.{Ready, Checked, outsideOf}
-use Rattle.judge.specs.Verdict.{formNumber, fieldNumber, firstOf, formOf, fieldsOf, fromJob, fromFields, fromSize, sizeWrong, Formed, OneJob}
+use Rattle.judge.specs.Verdict.{formNumber, fieldNumber, firstOf, formOf, fieldsOf, fromJob, fromFields, fromSize, Formed, OneJob}
 use Rattle.judge.proofs.Groups.{given, not-given, refusal-groups}
 use Rattle.judge.proofs.HeadAndJob.{HeadFirst, head-first, one-last, last-fits}
+use Rattle.map.specs.Sizes.{outOfRange}
+use Rattle.map.proofs.Sizes.{WithinLimits}
 use Rattle.map.proofs.Parts.{u16-drop}
 use Rattle.model.specs.Bytes.{u16}
 use Rattle.model.specs.Framing.{frame}
@@ -80,29 +82,35 @@ module _ (input : List ℕ) (s : Survey) (f : Formed input s) where
   after-form : (words bytes : ℕ) → refusal (frame input) words bytes ≡ fromSize (frame input .records) words bytes
   after-form words bytes = refusal-groups (frame input) words bytes ∙ not-given _ _ (f .number)
 
-  module _ (map : Map) (places : map .places ≡ u16 input 4) (arcs : map .arcs ≡ u16 input 6) where
-    size-same : sizeWrong (map .places) (map .arcs) (s .arcs) ≡ wrongSize (frame input .records)
+  module _ (n m : ℕ) (places : n ≡ u16 input 4) (arcs : m ≡ u16 input 6) where
+    size-same : (outOfRange n m || not (eqb m (s .arcs))) ≡ wrongSize (frame input .records)
     unfolding wrongSize
     size-same = rw (places, head .places, arcs, head .arcs, f .surveyed .arcs)
 
-    pub size-refused : (words bytes : ℕ) → sizeWrong (map .places) (map .arcs) (s .arcs) ≡ true → Judged input words bytes (Refused 5)
+    size-refused : (words bytes : ℕ) → (outOfRange n m || not (eqb m (s .arcs))) ≡ true → Judged input words bytes (Refused 5)
     size-refused words bytes e =
         let five = ap {B = ℕ} (λ (t : Bool). cond t 5 0) (sym size-same ∙ e) in
         refused input words bytes 5 (after-form words bytes ∙ given _ _ 5 five λ z. omega arith) (λ z. omega arith)
 
-    pub sized : sizeWrong (map .places) (map .arcs) (s .arcs) ≡ false → Sized input map
-    sized e =
-        let none-here = ap {B = ℕ} (λ (t : Bool). cond t 5 0) (sym size-same ∙ e) in
-        let least = neither (ltb (map .places) 1 || ltb maxPlaces (map .places) || ltb maxArcs (map .arcs)) _ e .0 in
-        let upper = neither (ltb (map .places) 1 || ltb maxPlaces (map .places)) _ least in
-        record {
-          fit = none .third;
-          places = places ∙ head .places;
-          arcs = arcs ∙ head .arcs;
-          few-places = ltb-false _ _ (neither (ltb (map .places) 1) _ (upper .0) .1);
-          few-arcs = ltb-false _ _ (upper .1);
-          number = λ words bytes. after-form words bytes ∙ not-given _ _ none-here;
-        }
+    pub range-refused : (words bytes : ℕ) → outOfRange n m ≡ true → Judged input words bytes (Refused 5)
+    range-refused words bytes e = size-refused words bytes (rw e)
+
+    module _ (map : Map) (w : WithinLimits n m map) where
+      pub arcs-refused : (words bytes : ℕ) → map .arcs ≢ s .arcs → Judged input words bytes (Refused 5)
+      arcs-refused words bytes h = size-refused words bytes (rw (w .in-range, ne-eqb m (s .arcs) λ e. h (w .arcs ∙ e)))
+
+      pub sized : map .arcs ≡ s .arcs → Sized input map
+      sized e =
+          let right = rw (w .in-range, eq-eqb m (s .arcs) (sym (w .arcs) ∙ e)) at size-same in
+          let none-here = ap {B = ℕ} (λ (t : Bool). cond t 5 0) (sym right) in
+          record {
+            fit = none .third;
+            places = w .places ∙ places ∙ head .places;
+            arcs = w .arcs ∙ arcs ∙ head .arcs;
+            few-places = w .few-places;
+            few-arcs = w .few-arcs;
+            number = λ words bytes. after-form words bytes ∙ not-given _ _ none-here;
+          }
 
 pub zeros-clear : (n v : ℕ) → _≡_ {A = ℕ} (getD (replicate n 0) v 0) 0
 zeros-clear zero v = refl

@@ -31,9 +31,6 @@ jobNumber outside goals estimated = cond outside 11 (cond goals 12 (cond estimat
 abbrev pub roomNumber : Bool → Bool → ℕ
 roomNumber work sheet = cond work 14 (cond sheet 15 0)
 
-abbrev pub sizeWrong : ℕ → ℕ → ℕ → Bool
-sizeWrong n m arcs = ltb n 1 || ltb maxPlaces n || ltb maxArcs m || not (eqb m arcs)
-
 abbrev pub goalsWrong : ℕ → Bool → Bool
 goalsWrong k falls = ltb k 1 || ltb maxGoals k || falls
 

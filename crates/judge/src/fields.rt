@@ -125,6 +125,6 @@ pub fn of(input: &[u8], places: usize, marks: &mut [u8; Map::PLACES]) -> Fields
             return f;
         };
         f = with_record(f, input, r, places, marks);
-        at = r.end;
+        at = record::end_of(r);
     }
 }

@@ -13,12 +13,6 @@ ghost use Rattle.model.specs.Bytes.{u16};
 ghost use Rattle.model.specs.Input.{headKind, jobKind};
 ghost use Rattle.model.specs.Refusals.{misfits};
 
-const HEAD_BYTES: usize = 4;
-
-const ARC_BYTES: usize = 6;
-
-const ESTIMATE_BYTES: usize = 6;
-
 pub struct Survey {
     pub broken: bool,
     pub unknown: bool,
@@ -56,13 +50,13 @@ fn misfit(input: &[u8], r: Record) -> bool
 {
     let len = r.end - r.start;
     if r.kind == record::HEAD {
-        return len != HEAD_BYTES;
+        return len != record::HEAD_BYTES;
     }
     if r.kind == record::ARC {
-        return len != ARC_BYTES;
+        return len != record::ARC_BYTES;
     }
     if r.kind == record::ESTIMATE {
-        return len != ESTIMATE_BYTES;
+        return len != record::ESTIMATE_BYTES;
     }
     if r.kind == record::JOB {
         return job_misfits(input, r.start, len);

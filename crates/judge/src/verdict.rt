@@ -7,12 +7,13 @@ use crate::survey;
 use crate::survey::Survey;
 use map::Job;
 use map::Map;
+use map::NewMap;
 use map::record;
 ghost use mathlib.Core.Path.{_≡_};
 ghost use Prim.Native.Nat.{_+_, _*_, _≤_, _<_};
 ghost use lib.Dec.{ltb};
 ghost use Rattle.judge.specs.Judge.{Judged};
-ghost use Rattle.judge.specs.Verdict.{formNumber, fieldNumber, jobNumber, roomNumber, sizeWrong, goalsWrong, Formed, OneJob};
+ghost use Rattle.judge.specs.Verdict.{formNumber, fieldNumber, jobNumber, roomNumber, goalsWrong, Formed, OneJob};
 ghost use Rattle.model.specs.Limits.{maxPlaces, maxArcs};
 
 // Document 01's numbers.
@@ -47,9 +48,9 @@ const SHORT_WORK: u32 = 14;
 const SHORT_SHEET: u32 = 15;
 
 // Where the first record, the head, has N and M.
-const PLACES_AT: usize = 4;
+const PLACES_AT: usize = record::HEADER + record::PLACES;
 
-const ARCS_AT: usize = 6;
+const ARCS_AT: usize = record::HEADER + record::ARCS;
 
 // The first of 1 to 4 that holds, or 0.
 fn form_number(cut: bool, unknown: bool, misfit: bool, head: bool) -> u32
@@ -68,12 +69,6 @@ fn form_number(cut: bool, unknown: bool, misfit: bool, head: bool) -> u32
         return WRONG_HEAD;
     }
     0
-}
-
-fn wrong_size(map: Map, arcs: usize) -> bool
-    ensures { λ r. ⌜ r ≡ sizeWrong (map .places) (map .arcs) arcs ⌝ }
-{
-    (map.places < 1) | (Map::PLACES < map.places) | (Map::ARCS < map.arcs) | (map.arcs != arcs)
 }
 
 // The first of 6 to 9 that holds, or 0.
@@ -165,11 +160,12 @@ fn judge_map(input: &[u8], s: Survey, words: usize, bytes: usize) -> Judgement
     requires { ⌜ Formed (now input) s ⌝ }
     ensures { λ r. ⌜ Judged (now (input .entry)) words bytes r ⌝ }
 {
-    let map = Map::new(
-        area::index(area::u16_at(input, PLACES_AT)),
-        area::index(area::u16_at(input, ARCS_AT)),
-    );
-    if wrong_size(map, s.arcs) {
+    let places = area::index(area::u16_at(input, PLACES_AT));
+    let arcs = area::index(area::u16_at(input, ARCS_AT));
+    let NewMap::Within(map) = Map::new(places, arcs) else {
+        return Judgement::Refused(WRONG_SIZE);
+    };
+    if map.arcs != s.arcs {
         return Judgement::Refused(WRONG_SIZE);
     }
     let mut marks = [0u8; Map::PLACES];

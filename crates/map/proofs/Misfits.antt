@@ -9,7 +9,7 @@ use lib.Dec.{ltb, eqb}
 use lib.ListN.{length, length-take, length-drop}
 use borrow.Author.Tests.{eqb-true, ne-eqb, ltb-false, not-false}
 use Rattle.map.specs.declared.record.Record.{Record}
-use Rattle.map.specs.Records.{recordIn}
+use Rattle.map.specs.Records.{recordIn, EndsByKind}
 use Rattle.map.proofs.Parts.{u16-part}
 use Rattle.model.specs.Bytes.{u16}
 use Rattle.model.specs.Framing as framing
@@ -49,6 +49,12 @@ module _ (input : List ℕ) (r : Record) (forward : r .start ≤ r .end) (ends :
 
   body-length : length (recordIn input r .body) ≡ len
   body-length = simp (length-take, length-drop) (omega arith)
+
+  -- an arc or an estimate of six bytes ends where its kind says
+  pub ends-by-kind : (r .kind ≡ arcKind → length (recordIn input r .body) ≡ 6) → (r .kind ≡ estimateKind → length (recordIn input r .body) ≡ 6)
+      → EndsByKind r
+  ends-by-kind arc estimate =
+      record { arc = λ e. omega (arith, arc e, body-length); estimate = λ e. omega (arith, estimate e, body-length) }
 
   pub head-misfits : r .kind ≡ headKind → not (eqb len 4) ≡ misfits (recordIn input r)
   head-misfits e = ap (λ (n : ℕ). not (eqb n 4)) (sym body-length) ∙ sym (head-fits (recordIn input r) e)

@@ -18,6 +18,7 @@ use Rattle.map.proofs.Records.{frame-end, frame-broken, frame-whole}
 -- the record r at byte `at` is the first of those left, and the others begin where it ends
 pub record Next (s : List ℕ) (at : ℕ) (r : Record) : Type 0 where
   pub later : at < r .end
+  pub forward : r .start ≤ r .end
   pub ends : r .end ≤ length s
   pub first : frame (drop at s) .records ≡ recordIn s r ∷ frame (drop (r .end) s) .records
 
@@ -29,6 +30,7 @@ module _ (s : List ℕ) (at : ℕ) (inside : at ≤ length s) where
       let whole = frame-whole s at inside r (sym read ∙ is) in
       record {
         later = omega (arith, whole .begins, whole .forward);
+        forward = whole .forward;
         ends = whole .ends;
         first = ap (λ f. f .records) (whole .framed);
       }

@@ -1,11 +1,12 @@
 // How the work area holds a map (specs/Layout.antt): where the regions begin, and the word of an arc.
+use crate::Map;
 ghost use mathlib.Core.Path.{_≡_};
 ghost use Prim.Native.Nat.{_+_, _*_, _≤_, _<_};
 ghost use Rattle.map.specs.Layout.{parentsAt, endsAt, estimatesAt, goalsAt, arcsAt};
 ghost use Rattle.model.specs.Limits.{maxPlaces};
 
 // What an arc's end counts in its word: above every cost.
-pub const END: u32 = 65536;
+pub const END: u32 = Map::ARC_COST + 1;
 
 pub fn parents_at(places: usize) -> usize
     requires { ⌜ places ≤ maxPlaces ⌝ }

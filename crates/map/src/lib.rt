@@ -4,12 +4,18 @@ pub mod record;
 
 ghost use mathlib.Core.Path.{_≡_};
 ghost use Prim.Native.Nat.{_+_, _*_, _≤_};
+ghost use Rattle.map.specs.Sizes.{mapOf};
 ghost use Rattle.model.specs.Limits.{maxPlaces, maxArcs};
 
-// The size of a map: its places are 0 to places − 1.
+// The size of a map within the limits: its places are 0 to places − 1.
 pub struct Map {
     pub places: usize,
     pub arcs: usize,
+}
+
+pub enum NewMap {
+    Within(Map),
+    OutOfRange,
 }
 
 impl Map {
@@ -24,10 +30,17 @@ impl Map {
 
     pub const GOALS: usize = 64;
 
-    pub fn new(places: usize, arcs: usize) -> Self
-        ensures { λ r. ⌜ (r .places ≡ places) × (r .arcs ≡ arcs) ⌝ }
+    // The bytes of the sheet area that the largest map asks for.
+    pub const SHEET_BYTES: usize = 10 + 2 * Map::PLACES;
+
+    // A map has a place or more, and no more places and arcs than the limits allow.
+    pub fn new(places: usize, arcs: usize) -> NewMap
+        ensures { λ r. ⌜ r ≡ mapOf places arcs ⌝ }
     {
-        Map { places, arcs }
+        if (places < 1) | (Map::PLACES < places) | (Map::ARCS < arcs) {
+            return NewMap::OutOfRange;
+        }
+        NewMap::Within(Map { places, arcs })
     }
 
     // The words of the work area that document 01 asks for.
