@@ -8,9 +8,7 @@
 #include "maps.hpp"
 #include "plain.hpp"
 
-extern "C" {
 #include "r3.h"
-}
 
 namespace {
 

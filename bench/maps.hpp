@@ -155,13 +155,29 @@ inline Map mero(uint32_t k)
     return m;
 }
 
+// A chain of 4,000 places behind Martelli's graph, at the place whose first arc leads to the goal. The start is surveyed, so that the goal is within
+// every limit: it is open, and far, while the chain is walked.
+inline Map far_goal(uint32_t k)
+{
+    Map m = martelli(k);
+    m.name = "far goal";
+    uint32_t first = m.places;
+    for (uint32_t v = first; v < first + 4000; v++)
+        m.arcs.push_back({v == first ? 1 : v - 1, v, 8});
+    m.places += 4000;
+    m.allowance = 236 * m.places;
+    m.estimate.resize(m.places, none);
+    m.estimate[m.start] = costs_to_goal(m)[m.start] * 95 / 100;
+    return m;
+}
+
 inline std::vector<Map> all()
 {
     return {
         grid(16, false, 60), grid(23, false, 60), grid(32, false, 60), grid(45, false, 60), grid(64, false, 60),
         grid(64, false, 0), grid(64, false, 95), grid(64, true, 0), grid(64, true, 60), grid(64, true, 95),
         random(4096, 0), random(4096, 60), random(4096, 100), random(2000, 95), // the third has all arcs and estimates that a map can have
-        star(4096), star(300), hubs(), chain(), martelli(16), mero(1000),
+        star(4096), star(300), hubs(), chain(), martelli(16), mero(1000), far_goal(16),
     };
 }
 

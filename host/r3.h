@@ -1,4 +1,7 @@
-/* The functions that the R3 router's archives export for a host in C.
+/* The functions that the R3 router's archives export for a host in C or C++.
+ *
+ * A call keeps nothing: it has no state, no heap and no files, and holds no pointer after it returns. So calls may run in several threads
+ * at once, each with areas of its own; what is only read may be shared.
  *
  * A slice is passed as a pointer and a length, counted in elements. What is promised rests on four things that nobody checks:
  * no pointer is null, also where the length is 0; words are aligned as uint32_t is; the areas that a call may write overlap
@@ -9,6 +12,10 @@
 
 #include <stddef.h>
 #include <stdint.h>
+
+#ifdef __cplusplus
+extern "C" {
+#endif
 
 /* libsheet_reader.a: asks one question of a sheet.
  * 0: the number of the read (0 a route, 17 no route, 18 and 19 refused)
@@ -30,5 +37,9 @@ uint32_t r3_sheet(const uint8_t *sheet, size_t length, uint32_t question);
 #define R3_BYTES R3_BYTES_OF(4096)
 uint32_t r3_route(const uint8_t *input, size_t length, uint32_t *work, size_t words, uint8_t *sheet, size_t bytes,
                   uint32_t *answer, size_t room);
+
+#ifdef __cplusplus
+}
+#endif
 
 #endif

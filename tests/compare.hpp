@@ -6,9 +6,7 @@
 #include "lent.h"
 #include "plain.hpp"
 
-extern "C" {
 #include "r3.h"
-}
 
 // Room for elements of which the last stands right before a page that cannot be touched.
 template <class T> class Area {

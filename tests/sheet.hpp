@@ -6,9 +6,7 @@
 
 #include "plain.hpp"
 
-extern "C" {
 #include "r3.h"
-}
 
 struct Reading {
     uint32_t number, cost;

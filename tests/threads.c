@@ -1,0 +1,96 @@
+/* Runs the exported calls in several threads at once, each on just the stack that r3.h names: the longest route that a map can have, and the
+ * reading of its sheet. Every thread must come to the same answer, which is known. */
+#define _DEFAULT_SOURCE
+#include <pthread.h>
+#include <string.h>
+
+#include "lent.h"
+#include "r3.h"
+
+enum { PLACES = 4096, COST = 65535, THREADS = 4, CALLS = 8, ROUTE_STACK = 320 << 10, SHEET_STACK = 64 << 10 };
+
+static uint8_t input[10 * PLACES + 40];
+static size_t length;
+
+struct Job {
+    uint8_t sheet[R3_BYTES];
+    uint32_t work[R3_WORDS_OF(PLACES, PLACES - 1)];
+    int right;
+};
+
+static void put16(uint32_t x)
+{
+    input[length++] = (uint8_t)x;
+    input[length++] = (uint8_t)(x >> 8);
+}
+
+static void put_record(uint32_t kind, const uint32_t *fields, uint32_t count)
+{
+    put16(2 * count);
+    put16(kind);
+    for (uint32_t i = 0; i < count; i++)
+        put16(fields[i]);
+}
+
+/* one chain through all places, each arc as dear as it may be */
+static void make_chain(void)
+{
+    uint32_t allowance = 236 * PLACES;
+    put_record(1, (uint32_t[]){PLACES, PLACES - 1}, 2);
+    for (uint32_t v = 0; v + 1 < PLACES; v++)
+        put_record(2, (uint32_t[]){v, v + 1, COST}, 3);
+    put_record(4, (uint32_t[]){0, allowance & 0xffff, allowance >> 16, 1, PLACES - 1}, 5);
+}
+
+static void *route(void *p)
+{
+    struct Job *job = p;
+    for (int i = 0; i < CALLS; i++) {
+        uint32_t answer[7];
+        uint32_t number = r3_route(input, length, job->work, sizeof job->work / 4, job->sheet, sizeof job->sheet, answer, 7);
+        job->right &= number == 0 && answer[1] == (PLACES - 1) * (uint32_t)COST && answer[6] == R3_BYTES_OF(PLACES);
+    }
+    return NULL;
+}
+
+static void *read_sheet(void *p)
+{
+    struct Job *job = p;
+    job->right &= r3_sheet(job->sheet, R3_BYTES, 0) == 0 && r3_sheet(job->sheet, R3_BYTES, 2) == PLACES;
+    for (uint32_t i = 0; i < PLACES; i += 63)
+        job->right &= r3_sheet(job->sheet, R3_BYTES, 3 + i) == i;
+    return NULL;
+}
+
+/* runs a function on every job, each in a thread of its own; below its stack lies a page that cannot be touched */
+static int run_all(void *(*function)(void *), struct Job *jobs, size_t stack)
+{
+    pthread_t thread[THREADS];
+    size_t page = (size_t)sysconf(_SC_PAGESIZE);
+    for (int i = 0; i < THREADS; i++) {
+        uint8_t *low = page_end(stack + page) - stack;
+        pthread_attr_t attr;
+        if (mprotect(low - page, page, PROT_NONE) != 0 || pthread_attr_init(&attr) != 0 || pthread_attr_setstack(&attr, low, stack) != 0 ||
+            pthread_create(&thread[i], &attr, function, &jobs[i]) != 0)
+            return 0;
+    }
+    for (int i = 0; i < THREADS; i++)
+        if (pthread_join(thread[i], NULL) != 0)
+            return 0;
+    return 1;
+}
+
+int main(void)
+{
+    static struct Job jobs[THREADS];
+    make_chain();
+    for (int i = 0; i < THREADS; i++) {
+        memset(&jobs[i], 0xee, sizeof jobs[i]);
+        jobs[i].right = 1;
+    }
+    int ran = run_all(route, jobs, ROUTE_STACK) && run_all(read_sheet, jobs, SHEET_STACK), right = 0;
+    for (int i = 0; i < THREADS; i++)
+        right += jobs[i].right;
+    printf("threads: %d, right: %d\n", THREADS, right);
+    return !ran || right != THREADS;
+}
