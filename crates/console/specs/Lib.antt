@@ -1,0 +1,2 @@
+-- What reading to the end promises.
+pub mod Reading
