@@ -1,20 +1,21 @@
--- The tree's `clear`: words that are filled with 2^32 - 1 are a tournament tree without keys.
+-- Trees without keys: words that are filled with 2^32 - 1 are one, and so is every tree whose least key is none.
 -- Assumes nothing.
-use mathlib.Core.Path.{_≡_, ap, _∙_}
+use mathlib.Core.Path.{_≡_, sym, ap, _∙_}
 use mathlib.Core.List.{List, [], append-nil}
 use Prim.Native.Nat.{ℕ, _+_, _-_, _*_, _<_, _≤_}
 use native.Mathlib.Decide.{decLt}
 use native.Mathlib.Omega.{arith}
 use lib.ListN.{length, getD, drop, set, replicate, length-append, length-drop, length-replicate}
 use lib.ListN.{drop-of-length-le, getD-replicate, replicate-append-replicate}
-use lib.Seq.{drop-at}
+use lib.Seq.{drop-at, ext-getD}
 use borrow.Author.Fill.{fill-more}
-use Rattle.open_list.specs.Entry.{noKey, noEntry}
+use Rattle.open_list.specs.Entry.{wordEnd, noKey, noEntry}
+use Rattle.open_list.specs.Keys.{Least}
 use Rattle.open_list.specs.Size.{Shape}
-use Rattle.open_list.specs.Tree.{TreeCleared, treeKeys, nodeEntry, leafEntry, entryAt, firstChild}
+use Rattle.open_list.specs.Tree.{Tournament, TreeCleared, treeKeys, nodeEntry, leafEntry, entryAt, firstChild}
 use Rattle.open_list.specs.Loops.{Clearing}
 use Rattle.open_list.proofs.Eight.{one8}
-use Rattle.open_list.proofs.Stores.{at-node, at-leaf}
+use Rattle.open_list.proofs.Stores.{at-node, at-leaf, keys-at, keys-length}
 
 -- ---- the loop
 pub clearing-length : (i : ℕ) (t₀ t : List ℕ) → Clearing t₀ t i → length t ≡ length t₀
@@ -66,3 +67,15 @@ clearing-end m i t₀ t s v h =
     let q : i ≡ 9 * m + 1 = omega (arith, v .inside) in
     let f : drop i t₀ ≡ [] = drop-of-length-le t₀ {i = i} (omega arith) in
     cleared m t (record { nodes = s .nodes; len = g ∙ n }) (v .so-far ∙ rw (f, append-nil, q))
+
+-- ---- a tree whose least key is none: each key is a word, so that none is above 2^32 - 1
+pub keyless : (m p k : ℕ) (t : List ℕ) → Tournament m t → Least (treeKeys m t) p k → k ≡ noKey → ((i : ℕ) → getD t i 0 < wordEnd) → TreeCleared m t
+keyless m p k t w f e words =
+    let len : length (treeKeys m t) ≡ 7 * m + 1 = keys-length m t (w .shape) in
+    let none : (q : ℕ) → q < length (treeKeys m t) → getD (treeKeys m t) q 0 ≡ noKey
+    = λ q h. omega (arith, f .least q h, keys-at m q t, words (m + m + q)) in
+    record {
+      tree = w;
+      keys-none = ext-getD 0 (treeKeys m t) (replicate (7 * m + 1) noKey) (len ∙ sym (length-replicate {A = ℕ} (7 * m + 1) noKey))
+          (λ q h. none q h ∙ sym (getD-replicate {A = ℕ} (7 * m + 1) q noKey 0 (omega arith)));
+    }

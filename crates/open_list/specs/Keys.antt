@@ -27,7 +27,12 @@ keysOf m hand words = withHand (treeKeys m words) hand
 unfoldable pub emptyHand : ℕ
 emptyHand = 18446744073709551615
 
--- what `clear` leaves: no place is open
+-- what `reset` asks: words that an open list has been kept in, with some hand
+pub record Used (m : ℕ) (words : List ℕ) : Type 0 where
+  pub hand : ℕ
+  pub list : OpenList m hand words
+
+-- what `clear` and `reset` leave: no place is open
 pub record Cleared (m : ℕ) (words : List ℕ) : Type 0 where
   pub list : OpenList m emptyHand words
   pub keys-none : keysOf m emptyHand words ≡ replicate (7 * m + 1) noKey

@@ -5,12 +5,12 @@
 // blocks of eight keys (src/tree.rt), in words that the caller lends, and one place in hand, a number that the caller carries from call
 // to call: the place's key * 2^32 + the place.
 //
-// Each operation but `clear` takes time logarithmic in the number of places; `clear` takes linear time. The hand takes a place that comes
-// before the one in hand, which then goes into the tree. A place that is closed while in hand takes no work on the tree: this saves nearly
-// all of it in searches with few open places.
+// Each operation but `clear` and `reset` takes time logarithmic in the number of places; these two take linear time, but `reset` next to
+// none where the tree holds no open place. The hand takes a place that comes before the one in hand, which then goes into the tree. A
+// place that is closed while in hand takes no work on the tree: this saves nearly all of it in searches with few open places.
 ghost use mathlib.Core.Path.{_≡_};
 ghost use Rattle.open_list.specs.Entry.{placeOf, keyOf, noKey};
-ghost use Rattle.open_list.specs.Keys.{OpenList, Least, Lowers, Closes, Put, Cleared, keysOf, emptyHand};
+ghost use Rattle.open_list.specs.Keys.{OpenList, Least, Lowers, Closes, Put, Cleared, Used, keysOf, emptyHand};
 ghost use Rattle.open_list.specs.Size.{Places, Nodes, Enough, wordsOf, Shape};
 ghost use Rattle.open_list.specs.Tree.{TreePut};
 
@@ -55,6 +55,18 @@ pub fn clear(words: &mut [u32], m: usize)
     requires { ⌜ Shape m (now words) ⌝ }
     ensures { λ _. ⌜ Cleared m (now (words .exit)) ⌝ }
 {
+    tree::clear(words, m);
+}
+
+// The same, of words that a list has been kept in: those that hold no open place are clear already.
+pub fn reset(words: &mut [u32], m: usize)
+    requires { ⌜ Used m (now words) ⌝ }
+    ensures { λ _. ⌜ Cleared m (now (words .exit)) ⌝ }
+{
+    let root = tree::least(words, m);
+    if entry::key_of(root) == NONE {
+        return;
+    }
     tree::clear(words, m);
 }
 

@@ -16,7 +16,7 @@ use Rattle.model.specs.Query.{nextLimit, notOver, query}
 use Rattle.model.proofs.LeastCosts.{table-length, entry-path}
 use Rattle.query.specs.Front.{Front, FirstOpen, NoneOpen, countBelow}
 use Rattle.scans.specs.Area.{labels, settledAt, IsNextLimit}
-use Rattle.query.specs.Query.{Agrees, Answered, outcomeOf}
+use Rattle.query.specs.Query.{Ready, Agrees, Answered, outcomeOf}
 use Rattle.query.specs.State.{Searching, AllSettled}
 use Rattle.query.specs.declared.Outcome.the-variants.{Ended, Over, Found, None}
 use Rattle.query.specs.declared.Asked.{Asked}
@@ -38,12 +38,13 @@ ended-next n count w next i e =
     record { lasts = refl; count-is = refl; outcome-is = λ start. rw (← (i .next start), wordOr-some next e) }
 
 -- words with the same map are answered the same
-pub answered-same : (n start limit budget left : ℕ) (w₀ w₁ w : List ℕ) (r : Asked) → drop (endsAt n) w₁ ≡ drop (endsAt n) w₀
-    → Answered n start limit budget left w₁ w r → Answered n start limit budget left w₀ w r
-answered-same n start limit budget left w₀ w₁ w r same a =
+pub answered-same : (n m start limit budget left : ℕ) (w₀ w₁ w : List ℕ) (r : Asked) → drop (endsAt n) w₁ ≡ drop (endsAt n) w₀
+    → Answered n m start limit budget left w₁ w r → Answered n m start limit budget left w₀ w r
+answered-same n m start limit budget left w₀ w₁ w r same a =
     let p = problem-same n w₁ w₀ same start in
     record {
       same-map = a .same-map ∙ same;
+      ready = a .ready;
       spent = rw p at (a .spent);
       cut = a .cut;
       lasts = rw p at (a .lasts);
@@ -77,8 +78,12 @@ module _ {n m arcs start limit budget left : ℕ} {w₀ : List ℕ} {hand : ℕ}
   unfolding p settled problemAt
   counted = s .counted
 
+  ready : Ready n m w
+  ready = record { enough = s .coherent .room .enough; used = record { hand = hand; list = s .coherent .list } }
+
   -- nothing is open: the labels are the table, and the outcome is by its next limit
-  pub answered-settled : NoneOpen (λ v. costAt (labels n w) v) (settledAt n m hand w) → (r : Asked) → AllSettled n count w r → Answered n start limit budget left w₀ w r
+  pub answered-settled : NoneOpen (λ v. costAt (labels n w) v) (settledAt n m hand w) → (r : Asked) → AllSettled n count w r
+      → Answered n m start limit budget left w₀ w r
   unfolding p label settled problemAt notOver
   answered-settled none-open r a =
       let result = all-settled p valid limit label settled front budget none-open (omega (arith, counted, s .in-budget)) in
@@ -87,6 +92,7 @@ module _ {n m arcs start limit budget left : ℕ} {w₀ : List ℕ} {hand : ℕ}
       a .outcome-is start ∙ rw (problem-same n w w₀ (s .same-map) start, labels-table) in
       record {
         same-map = s .same-map;
+        ready = ready;
         spent = λ t. absurd (not-both t (a .lasts));
         cut = λ t. absurd (not-both t (a .lasts));
         lasts = λ t. omega (arith, cost, s .lasts);
@@ -131,13 +137,15 @@ module _ {n m arcs start limit budget left : ℕ} {w₀ : List ℕ} {hand : ℕ}
         own u x e l false o = absurd (omega (arith, first .least u x o e))
 
     -- the first open place is a goal
-    pub answered-goal : IsGoal (problemAt n start w₀) v → Answered n start limit budget left w₀ w (record { spent = false; outcome = Found; count = count; place = v })
+    pub answered-goal : IsGoal (problemAt n start w₀) v
+        → Answered n m start limit budget left w₀ w (record { spent = false; outcome = Found; count = count; place = v })
     unfolding p label
     answered-goal goal =
         let result = goal-outcome p valid limit label settled front v d budget first goal (omega (arith, counted, s .in-budget)) in
         let cost : query p limit budget .cost ≡ count = result .1 ∙ counted in
         record {
           same-map = s .same-map;
+          ready = ready;
           spent = λ t. absurd (false≢true t);
           cut = λ t. absurd (false≢true t);
           lasts = λ t. omega (arith, cost, s .lasts);
@@ -153,12 +161,14 @@ module _ {n m arcs start limit budget left : ℕ} {w₀ : List ℕ} {hand : ℕ}
         }
 
     -- it is none, and the budget is used up
-    pub answered-over : (IsGoal (problemAt n start w₀) v → ⊥) → count ≡ budget → Answered n start limit budget left w₀ w (record { spent = false; outcome = Over; count = count; place = 0 })
+    pub answered-over : (IsGoal (problemAt n start w₀) v → ⊥) → count ≡ budget
+        → Answered n m start limit budget left w₀ w (record { spent = false; outcome = Over; count = count; place = 0 })
     unfolding p
     answered-over no-goal b =
         let result = over-outcome p valid limit label settled front v d budget first no-goal (counted ∙ b) in
         record {
           same-map = s .same-map;
+          ready = ready;
           spent = λ t. absurd (false≢true t);
           cut = λ t. absurd (false≢true t);
           lasts = λ t. omega (arith, result .1, s .lasts);
@@ -169,11 +179,12 @@ module _ {n m arcs start limit budget left : ℕ} {w₀ : List ℕ} {hand : ℕ}
 
     -- it is none, the budget is not used up, and what is left of the allowance is
     pub answered-spent : (IsGoal (problemAt n start w₀) v → ⊥) → (count ≡ budget → ⊥) → count ≡ left
-        → Answered n start limit budget left w₀ w (record { spent = true; outcome = Over; count = count; place = 0 })
+        → Answered n m start limit budget left w₀ w (record { spent = true; outcome = Over; count = count; place = 0 })
     unfolding p
     answered-spent no-goal b l =
         record {
           same-map = s .same-map;
+          ready = ready;
           spent = λ t. spent-cost p valid limit label settled front v d budget left first no-goal (counted ∙ l) (omega (arith, s .in-budget));
           cut = λ t. l;
           lasts = λ t. absurd (false≢true (sym t));

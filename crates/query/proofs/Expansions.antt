@@ -127,7 +127,7 @@ module _ (n m hand count v : ℕ) (w : List ℕ) (coherent : Coherent n m hand w
       go (no h) = label-beyond n w₁ after u (omega arith) ∙ sym (label-beyond n w before u (omega arith))
 
 module _ {n m arcs start limit budget left : ℕ} {w₀ : List ℕ} {hand : ℕ} {w : List ℕ} {count v d : ℕ} (t : Taken n m arcs start limit budget left w₀ hand w count v d) where
-  ask : Askable n arcs start limit w₀
+  ask : Askable n m arcs start limit w₀
   ask = t .under .ask
 
   s : Searching n m start limit budget left w₀ hand w count

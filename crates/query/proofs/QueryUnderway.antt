@@ -11,15 +11,15 @@ use lib.ListN.{length, getD, drop, getD-replicate}
 use Rattle.area.specs.Part.{part}
 use Rattle.open_list.specs.Entry.{noKey}
 use Rattle.open_list.specs.Keys.{OpenList, Least, keysOf, emptyHand}
-use Rattle.open_list.specs.Size.{Places, Enough}
+use Rattle.open_list.specs.Size.{Places}
 use Rattle.map.specs.Layout.{endsAt, goalsAt, problemAt}
 use Rattle.model.specs.Problem.{IsGoal}
 use Rattle.model.specs.Costs.{costAt}
 use Rattle.model.proofs.LeastCosts.{end-below}
 use Rattle.query.specs.Front.{FirstOpen, NoneOpen}
-use Rattle.scans.specs.Area.{labels, keys, settledAt, Listed}
+use Rattle.scans.specs.Area.{labels, openWords, keys, settledAt, Listed}
 use Rattle.query.specs.Query.{Askable}
-use Rattle.query.specs.State.{Room, Blank, Arrives, Arrived, Searching}
+use Rattle.query.specs.State.{Room, Clears, Blank, Arrives, Arrived, Searching}
 use Rattle.query.proofs.Settling.{not-both}
 use Rattle.query.proofs.Counting.{count-none}
 use Rattle.query.proofs.Front.{begin-front}
@@ -29,8 +29,8 @@ use Rattle.query.proofs.Regions.{openEnd, open-part, begun-map}
 use Rattle.query.proofs.Listing.{lists-same}
 use Rattle.query.proofs.Coherence.{coherent-length, KeySet, own-key, still-coherent}
 
-module _ (n arcs start limit : ℕ) (w : List ℕ) (ask : Askable n arcs start limit w) where
-  pub ask-places : Places n
+module _ (n m arcs start limit : ℕ) (w : List ℕ) (ask : Askable n m arcs start limit w) where
+  ask-places : Places n
   unfolding problemAt
   ask-places = record { some = ask .holds .valid .some-place; few = ask .holds .valid .few-places }
 
@@ -38,38 +38,44 @@ module _ (n arcs start limit : ℕ) (w : List ℕ) (ask : Askable n arcs start l
   unfolding problemAt
   ask-start = ask .holds .valid .start-below
 
-  pub ask-room : (m : ℕ) → Enough n m → Room n m w
-  ask-room m e = record { few = ask-places .few; enough = e; words = omega (arith, ask .holds .room) }
+  ask-room : (w′ : List ℕ) → length w′ ≡ length w → Room n m w′
+  ask-room w′ len = record { few = ask-places .few; enough = ask .ready .enough; words = omega (arith, ask .holds .room) }
 
-  -- words with the same map may be asked the same
-  pub ask-same : (w′ : List ℕ) → drop (endsAt n) w′ ≡ drop (endsAt n) w → length w′ ≡ length w → Askable n arcs start limit w′
-  ask-same w′ same len =
+  pub ask-clears : Clears n m w
+  ask-clears = record { room = ask-room w refl; used = ask .ready .used }
+
+  -- words with the same map and an open list may be asked the same
+  pub ask-same : (w′ : List ℕ) → drop (endsAt n) w′ ≡ drop (endsAt n) w → length w′ ≡ length w → (hand : ℕ) → OpenList m hand (openWords n m w′)
+      → Askable n m arcs start limit w′
+  ask-same w′ same len hand list =
       record {
         holds = holds-same n w′ w same arcs start len (ask .holds);
+        ready = record { enough = ask .ready .enough; used = record { hand = hand; list = list } };
         start-within = rw (problem-same n w′ w same start) (ask .start-within);
         limit-below = ask .limit-below;
       }
 
   -- once the area is cleared, the start can be arrived at
-  pub start-arrives : (m : ℕ) → Enough n m → (w′ : List ℕ) → Blank n m w w′ → length w′ ≡ length w → (hand : ℕ) → hand ≡ emptyHand → Arrives n m hand start 0 w′
-  start-arrives m e w′ b len hand q =
+  pub start-arrives : (w′ : List ℕ) → Blank n m w w′ → length w′ ≡ length w → (hand : ℕ) → hand ≡ emptyHand → Arrives n m hand start 0 w′
+  start-arrives w′ b len hand q =
       record {
-        room = record { few = ask-places .few; enough = e; words = omega (arith, ask .holds .room) };
+        room = ask-room w′ len;
         place = ask-start;
         lowers =
             record {
               list = rw q (b .none-open .list);
-              place-in = omega (arith, ask-start, e .keys);
+              place-in = omega (arith, ask-start, ask .ready .enough .keys);
               some = omega arith;
               below = omega arith;
             };
       }
 
 -- the start is labelled 0 and open, and no other place has a label
-module _ (n m arcs start limit : ℕ) (w₀ : List ℕ) (ask : Askable n arcs start limit w₀) (enough : Enough n m) (w₁ : List ℕ) (b : Blank n m w₀ w₁) (len₁ : length w₁ ≡ length w₀)
-    (h₁ : ℕ) (empty : h₁ ≡ emptyHand) (hand : ℕ) (w : List ℕ) (a : Arrived n m start 0 h₁ w₁ hand w) (len : length w ≡ length w₁) where
+module _ (n m arcs start limit : ℕ) (w₀ : List ℕ) (ask : Askable n m arcs start limit w₀) (w₁ : List ℕ) (b : Blank n m w₀ w₁)
+    (len₁ : length w₁ ≡ length w₀) (h₁ : ℕ) (empty : h₁ ≡ emptyHand) (hand : ℕ) (w : List ℕ)
+    (a : Arrived n m start 0 h₁ w₁ hand w) (len : length w ≡ length w₁) where
   place : start < n
-  place = ask-start n arcs start limit w₀ ask
+  place = ask-start n m arcs start limit w₀ ask
 
   no-key : (v : ℕ) → v < 7 * m + 1 → getD (keys n m h₁ w₁) v 0 ≡ noKey
   unfolding keys
@@ -80,9 +86,9 @@ module _ (n m arcs start limit : ℕ) (w₀ : List ℕ) (ask : Askable n arcs st
       record {
         coherent =
             record {
-              room = record { few = ask-places n arcs start limit w₀ ask .few; enough = enough; words = omega (arith, ask .holds .room) };
+              room = ask-room n m arcs start limit w₀ ask w₁ len₁;
               list = rw empty (b .none-open .list);
-              key-label = λ v h. inl (no-key v (omega (arith, enough .keys)));
+              key-label = λ v h. inl (no-key v (omega (arith, ask .ready .enough .keys)));
               beyond = λ v h k. no-key v k;
             };
         place = place;
@@ -117,7 +123,7 @@ module _ (n m arcs start limit : ℕ) (w₀ : List ℕ) (ask : Askable n arcs st
   unfolding problemAt
   searching-starts budget left =
       let same = begun-map b a in
-      let again = ask-same n arcs start limit w₀ ask w same (len ∙ len₁) in
+      let again = ask-same n m arcs start limit w₀ ask w same (len ∙ len₁) hand (a .list) in
       let none : settledAt n m hand w ≡ (λ v. false) = λ i v. none-settled v i in
       let label = is-label n w (omega (arith, ask .holds .room)) start 0 (record { place = place; word = a .label; some = λ q. omega arith }) in
       record {
@@ -133,7 +139,7 @@ module _ (n m arcs start limit : ℕ) (w₀ : List ℕ) (ask : Askable n arcs st
 
 -- a search under way over words that may be asked
 pub record Underway (n m arcs start limit budget left : ℕ) (w₀ : List ℕ) (hand : ℕ) (w : List ℕ) (count : ℕ) : Type 0 where
-  pub ask : Askable n arcs start limit w₀
+  pub ask : Askable n m arcs start limit w₀
   pub search : Searching n m start limit budget left w₀ hand w count
 
 -- the first open place, taken from the open list of a search under way
@@ -143,7 +149,7 @@ pub record Taken (n m arcs start limit budget left : ℕ) (w₀ : List ℕ) (han
   pub first : FirstOpen (λ u. costAt (labels n w) u) (settledAt n m hand w) v d
 
 module _ {n m arcs start limit budget left : ℕ} {w₀ : List ℕ} {hand : ℕ} {w : List ℕ} {count : ℕ} (under : Underway n m arcs start limit budget left w₀ hand w count) where
-  ask : Askable n arcs start limit w₀
+  ask : Askable n m arcs start limit w₀
   ask = under .ask
 
   s : Searching n m start limit budget left w₀ hand w count

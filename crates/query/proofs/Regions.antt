@@ -10,11 +10,12 @@ use borrow.Rule.Slice.PartMut.{putMid}
 use Rattle.area.specs.Part.{part}
 use Rattle.area.proofs.Parts.{same-after, less-after, part-length, part-at, part-set-low, part-back, part-back-low, drop-back, back-length, back-at}
 use Rattle.open_list.specs.Entry.{noKey}
-use Rattle.open_list.specs.Keys.{Lowers, Closes, Put, Cleared}
-use Rattle.open_list.specs.Size.{wordsOf}
+use Rattle.open_list.specs.Keys.{Lowers, Closes, Put, Cleared, Used, emptyHand}
+use Rattle.open_list.specs.Size.{Enough, wordsOf}
 use Rattle.map.specs.Layout.{parentsAt, endsAt}
 use Rattle.scans.specs.Area.{openWords, keys, listedAt}
-use Rattle.query.specs.State.{Room, Blank, Arrives, Arrived, Settles, Settled}
+use Rattle.query.specs.Query.{Preparable, Prepared}
+use Rattle.query.specs.State.{Room, Clears, Blank, Arrives, Arrived, Settles, Settled}
 
 -- where the open list ends
 abbrev pub openEnd : ℕ → ℕ → ℕ
@@ -121,11 +122,20 @@ module _ (n m hand count v : ℕ) (w : List ℕ) (a : Settles n m hand count v w
         listed-before = λ i h. listed i ∙ getD-set-other w at (parentsAt n + i) v 0 (λ q. omega arith);
       }
 
-module _ (n m : ℕ) (w : List ℕ) (room : Room n m w) where
+module _ (n m : ℕ) (w : List ℕ) (a : Clears n m w) where
+  room : Room n m w
+  room = a .room
+
   -- the labels have come back filled, then the open list cleared
   module _ (xs : List ℕ) (l : length xs ≡ length (part 0 n w)) where
     filled-room : Room n m (putMid 0 (n - 0) w xs)
     filled-room = record { few = room .few; enough = room .enough; words = omega (arith, back-length 0 n w xs l) }
+
+    pub still-used : Used m (part n (openEnd n m) (putMid 0 (n - 0) w xs))
+    unfolding openWords
+    still-used =
+        let same : drop n (putMid 0 (n - 0) w xs) ≡ drop n w = drop-back 0 n w xs n (omega arith) (omega arith) l (omega arith) in
+        rw (← (open-part n m (putMid 0 (n - 0) w xs)), same) (a .used)
 
     pub blank : (ys : List ℕ) → xs ≡ replicate (length (part 0 n w)) noKey → length ys ≡ length (part n (openEnd n m) (putMid 0 (n - 0) w xs)) → Cleared m ys
         → Blank n m w (putMid n (openEnd n m - n) (putMid 0 (n - 0) w xs) ys)
@@ -140,3 +150,13 @@ module _ (n m : ℕ) (w : List ℕ) (room : Room n m w) where
               b .label v h ∙ rw q at filled ∙ rw f (getD-replicate (length (part 0 n w)) v noKey 0 len);
           none-open = rw (b .list) z;
         }
+
+-- the open list has come back cleared, before the queries
+pub prepared : (n m : ℕ) (w ys : List ℕ) → Preparable n w → Enough n m → length ys ≡ length (part n (openEnd n m) w) → Cleared m ys
+    → Prepared n m w (putMid n (openEnd n m - n) w ys)
+prepared n m w ys p e l z =
+    let b = back n m w ys (record { few = p .places .few; enough = e; words = p .words }) l in
+    record {
+      same-map = map-same n w (putMid n (openEnd n m - n) w ys) (b .same-rest);
+      ready = record { enough = e; used = record { hand = emptyHand; list = rw (b .list) (z .list) } };
+    }

@@ -4,13 +4,15 @@ use mathlib.Core.Bool.{true, false}
 use mathlib.Core.List.{List}
 use mathlib.Core.Option.{some}
 use Prim.Native.Nat.{ℕ, _^_, _≤_, _<_}
-use lib.ListN.{drop}
-use Rattle.map.specs.Layout.{Holds, problemAt, endsAt}
+use lib.ListN.{length, drop}
+use Rattle.open_list.specs.Keys.{Used}
+use Rattle.open_list.specs.Size.{Places, Enough}
+use Rattle.map.specs.Layout.{Holds, problemAt, endsAt, arcsAt}
 use Rattle.model.specs.Problem.{Problem}
 use Rattle.model.specs.Costs.{Table, costAt, table}
 use Rattle.model.specs.Query as model
 use Rattle.model.specs.Query.{firstGoal, query}
-use Rattle.scans.specs.Area.{labels}
+use Rattle.scans.specs.Area.{labels, openWords}
 use Rattle.query.specs.declared.Outcome.{Outcome}
 use Rattle.query.specs.declared.Outcome.the-variants.{Ended, Over, Found, None}
 use Rattle.query.specs.declared.Asked.{Asked}
@@ -22,9 +24,25 @@ outcomeOf Over = model.over
 outcomeOf Found = model.found
 outcomeOf None = model.nothing
 
--- the area holds a map, the start is within the limit, and the limit is one that the rounds can ask
-pub record Askable (n arcs start limit : ℕ) (w : List ℕ) : Type 0 where
+-- the words of an open list for n places, of so many nodes, from which a query can begin
+pub record Ready (n nodes : ℕ) (w : List ℕ) : Type 0 where
+  pub enough : Enough n nodes
+  pub used : Used nodes (openWords n nodes w)
+
+-- what `prepare` asks: places, and the words of their regions
+pub record Preparable (n : ℕ) (w : List ℕ) : Type 0 where
+  pub places : Places n
+  pub words : arcsAt n ≤ length w
+
+-- what it leaves: the map is as before
+pub record Prepared (n nodes : ℕ) (w₀ w : List ℕ) : Type 0 where
+  pub same-map : drop (endsAt n) w ≡ drop (endsAt n) w₀
+  pub ready : Ready n nodes w
+
+-- the area holds a map and an open list, the start is within the limit, and the limit is one that the rounds can ask
+pub record Askable (n nodes arcs start limit : ℕ) (w : List ℕ) : Type 0 where
   pub holds : Holds n arcs start w
+  pub ready : Ready n nodes w
   pub start-within : problemAt n start w .estimate start ≤ limit
   pub limit-below : limit < 2 ^ 30
 
@@ -42,9 +60,10 @@ pub record FoundAt (p : Problem) (limit n place : ℕ) (w : List ℕ) : Type 0 w
   pub label-below : (v d : ℕ) → costAt (labels n w) v ≡ some d → d < 2 ^ 30
 
 -- The query's outcome and cost are the definition's, unless it costs more than is left; where it is cut, it has counted what was left. The
--- map is as before.
-pub record Answered (n start limit budget left : ℕ) (w₀ w : List ℕ) (r : Asked) : Type 0 where
+-- map is as before, and the open list is ready for the next query.
+pub record Answered (n nodes start limit budget left : ℕ) (w₀ w : List ℕ) (r : Asked) : Type 0 where
   pub same-map : drop (endsAt n) w ≡ drop (endsAt n) w₀
+  pub ready : Ready n nodes w
   pub spent : r .spent ≡ true → left < query (problemAt n start w₀) limit budget .cost
   pub cut : r .spent ≡ true → r .count ≡ left
   pub lasts : r .spent ≡ false → query (problemAt n start w₀) limit budget .cost ≤ left

@@ -7,7 +7,7 @@ use mathlib.Core.Option.{none}
 use Prim.Native.Nat.{ℕ, _+_, _*_, _/_, _%_, _^_, _≤_, _<_}
 use lib.ListN.{length, getD, set, drop}
 use Rattle.open_list.specs.Entry.{noKey}
-use Rattle.open_list.specs.Keys.{OpenList, Lowers, Cleared}
+use Rattle.open_list.specs.Keys.{OpenList, Lowers, Cleared, Used}
 use Rattle.open_list.specs.Size.{Enough}
 use Rattle.map.specs.Layout.{parentsAt, endsAt, estimatesAt, arcsAt, Holds, problemAt}
 use Rattle.model.specs.Limits.{maxPlaces, maxEstimate}
@@ -23,6 +23,11 @@ pub record Room (n nodes : ℕ) (w : List ℕ) : Type 0 where
   pub few : n ≤ maxPlaces
   pub enough : Enough n nodes
   pub words : arcsAt n ≤ length w
+
+-- what `clear` asks
+pub record Clears (n nodes : ℕ) (w : List ℕ) : Type 0 where
+  pub room : Room n nodes w
+  pub used : Used nodes (openWords n nodes w)
 
 -- what `clear` leaves: no place has a label, none is open, and the words from the parents on are as before
 pub record Blank (n nodes : ℕ) (w₀ w : List ℕ) : Type 0 where

@@ -2,11 +2,10 @@
 use map::Map;
 use map::layout;
 ghost use mathlib.Core.Path.{_≡_};
-ghost use mathlib.Core.Bool.{false};
 ghost use Rattle.map.specs.Layout.{rowStart, rowEnd};
 ghost use Rattle.scans.specs.Area.{Listed};
-ghost use Rattle.query.specs.Query.{Askable, Answered};
-ghost use Rattle.query.specs.State.{Room, Blank, Arrives, Arrived, Settles, Settled, Relaxes, ByArc, ByArcs, Relaxed, Expands, AllSettled};
+ghost use Rattle.query.specs.Query.{Preparable, Prepared, Askable, Answered};
+ghost use Rattle.query.specs.State.{Clears, Blank, Arrives, Arrived, Settles, Settled, Relaxes, ByArc, ByArcs, Relaxed, Expands, AllSettled};
 
 // How a query ends: by a number above the limit, by its budget, at a goal, or with nothing left to reach.
 pub enum Outcome {
@@ -28,14 +27,26 @@ pub struct Asked {
 
 const NONE: u32 = open_list::NONE;
 
+// Clears the words of the open list, once before all queries, and gives how many nodes it has. Each query leaves them ready for the next.
+pub fn prepare(work: &mut [u32], size: Map) -> usize
+    requires { ⌜ Preparable (size .places) (now work) ⌝ }
+    ensures { λ r. ⌜ Prepared (size .places) r (now (work .entry)) (now (work .exit)) ⌝ }
+{
+    let n = size.places;
+    let m = open_list::nodes(n);
+    let end = n + open_list::words(m);
+    open_list::clear(&mut work[n..end], m);
+    m
+}
+
 // No place has a label, and none is open.
 fn clear(work: &mut [u32], n: usize, m: usize)
-    requires { ⌜ Room n m (now work) ⌝ }
+    requires { ⌜ Clears n m (now work) ⌝ }
     ensures { λ _. ⌜ Blank n m (now (work .entry)) (now (work .exit)) ⌝ }
 {
     area::fill(&mut work[0..n], NONE);
     let end = n + open_list::words(m);
-    open_list::clear(&mut work[n..end], m);
+    open_list::reset(&mut work[n..end], m);
 }
 
 // Place v is reached at cost d, which is below its label.
@@ -91,12 +102,12 @@ fn expand(work: &mut [u32], n: usize, m: usize, hand: u64, limit: u32, u: usize,
     h
 }
 
-// What a query gives that is not cut.
-fn answered(outcome: Outcome, count: u32, place: u32) -> Asked
-    ensures { λ r. ⌜ r ≡ record { spent = false; outcome = outcome; count = count; place = place } ⌝ }
+// What a query gives.
+fn answered(spent: bool, outcome: Outcome, count: u32, place: u32) -> Asked
+    ensures { λ r. ⌜ r ≡ record { spent = spent; outcome = outcome; count = count; place = place } ⌝ }
 {
     Asked {
-        spent: false,
+        spent,
         outcome,
         count,
         place,
@@ -110,17 +121,26 @@ fn all_settled(work: &[u32], n: usize, count: u32) -> Asked
 {
     let next = scans::next_limit(work, n, count as usize);
     if next == NONE {
-        return answered(Outcome::None, count, 0);
+        return answered(false, Outcome::None, count, 0);
     }
-    answered(Outcome::Ended(next), count, 0)
+    answered(false, Outcome::Ended(next), count, 0)
 }
 
-pub fn query(work: &mut [u32], size: Map, start: u32, limit: u32, budget: u32, left: u32) -> Asked
-    requires { ⌜ Askable (size .places) (size .arcs) start limit (now work) ⌝ }
-    ensures { λ r. ⌜ Answered (size .places) start limit budget left (now (work .entry)) (now (work .exit)) r ⌝ }
+// Each turn tests for a goal before the budget, since a query's length counts the places before the first goal, and for the budget before
+// the allowance, since document 01 lets it count first.
+pub fn query(
+    work: &mut [u32],
+    size: Map,
+    m: usize,
+    start: u32,
+    limit: u32,
+    budget: u32,
+    left: u32,
+) -> Asked
+    requires { ⌜ Askable (size .places) m (size .arcs) start limit (now work) ⌝ }
+    ensures { λ r. ⌜ Answered (size .places) m start limit budget left (now (work .entry)) (now (work .exit)) r ⌝ }
 {
     let n = size.places;
-    let m = open_list::nodes(n);
     let end = n + open_list::words(m);
     clear(work, n, m);
     let mut hand = arrive(work, n, m, open_list::empty(), start as usize, 0);
@@ -132,21 +152,14 @@ pub fn query(work: &mut [u32], size: Map, start: u32, limit: u32, budget: u32, l
         if d == NONE {
             return all_settled(work, n, count);
         }
-        // A goal before the budget, since a query's length counts the places before the first goal; the budget before the allowance,
-        // since document 01 lets it count first.
         if work[layout::goals_at(n) + place] != 0 {
-            return answered(Outcome::Found, count, place as u32);
+            return answered(false, Outcome::Found, count, place as u32);
         }
         if count == budget {
-            return answered(Outcome::Over, count, 0);
+            return answered(false, Outcome::Over, count, 0);
         }
         if count == left {
-            return Asked {
-                spent: true,
-                outcome: Outcome::Over,
-                count,
-                place: 0,
-            };
+            return answered(true, Outcome::Over, count, 0);
         }
         hand = settle(work, n, m, hand, count, place);
         hand = expand(work, n, m, hand, limit, place, d);

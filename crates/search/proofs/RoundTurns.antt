@@ -19,7 +19,7 @@ use Rattle.model.specs.Routes.{routeTo}
 use Rattle.model.specs.Answer.{routed, searched}
 use Rattle.model.proofs.Laws as laws
 use Rattle.scans.specs.Area.{Follows}
-use Rattle.query.specs.Query.{outcomeOf, Askable, Answered, FoundAt}
+use Rattle.query.specs.Query.{Ready, Preparable, outcomeOf, Askable, Answered, FoundAt}
 use Rattle.search.specs.Rounds.{highOf, roundOf, Searched}
 use Rattle.search.specs.Underway.{RoundAfter, GoalLabelled, Parented, Underway, BetweenQueries}
 use Rattle.query.specs.declared.Asked.{Asked}
@@ -43,12 +43,18 @@ pub record Sizes (n start : ℕ) (w : List ℕ) : Type 0 where
   pub start-place : start < n
   pub estimate-in : estimatesAt n + start < length w
 
+-- what is searched over words with the same map is searched over the others
+pub searched-same : {n start a : ℕ} {w₀ w₁ w : List ℕ} {v : Verdict} → drop (endsAt n) w₁ ≡ drop (endsAt n) w₀ → Searched n start a w₁ w v
+    → Searched n start a w₀ w v
+searched-same {n} {start} {a} {w₀} {w₁} same s =
+    record { same-map = s .same-map ∙ same; means = rw (problem-same n w₁ w₀ same start) at (s .means) }
+
 -- A query has ended: it began in the round, with total t after q queries, in the area w of a search that began with w₀, and left w′ and r.
-pub record Turn (n arcs start a : ℕ) (w₀ w : List ℕ) (round : Round) (t q limit : ℕ) (w′ : List ℕ) (r : Asked) : Type 0 where
+pub record Turn (n m arcs start a : ℕ) (w₀ w : List ℕ) (round : Round) (t q limit : ℕ) (w′ : List ℕ) (r : Asked) : Type 0 where
   pub holds : Holds n arcs start w₀
-  pub between : BetweenQueries n start a w₀ w round t q
+  pub between : BetweenQueries n m start a w₀ w round t q
   pub limit-is : limit ≡ limitIn round
-  pub answered : Answered n start limit (round .budget) (a - t) w w′ r
+  pub answered : Answered n m start limit (round .budget) (a - t) w w′ r
   pub same-length : length w′ ≡ length w
 
 module _ {n arcs start : ℕ} {w₀ : List ℕ} (holds : Holds n arcs start w₀) where
@@ -58,22 +64,27 @@ module _ {n arcs start : ℕ} {w₀ : List ℕ} (holds : Holds n arcs start w₀
       let low : start < n = holds .valid .start-below in
       record { few = holds .valid .few-places; start-place = low; estimate-in = omega (arith, holds .room) }
 
+  pub preparable : Preparable n w₀
+  unfolding problemAt
+  preparable = record { places = record { some = holds .valid .some-place; few = sizes .few }; words = omega (arith, holds .room) }
+
   first-low : getD w₀ (estimatesAt n + start) 0 ≡ problemAt n start w₀ .estimate (problemAt n start w₀ .start)
   unfolding problemAt
   first-low = rw (lt-ltb start n (sizes .start-place))
 
   -- the search begins in the first round
-  pub begins : (a low : ℕ) (o : Outcome) → low ≡ getD w₀ (estimatesAt n + start) 0
-      → BetweenQueries n start a w₀ w₀ (record { low = low; high = Unset; budget = 1; outcome = o }) 0 0
+  pub begins : (m : ℕ) → Ready n m w₀ → (a low : ℕ) (o : Outcome) → low ≡ getD w₀ (estimatesAt n + start) 0
+      → BetweenQueries n m start a w₀ w₀ (record { low = low; high = Unset; budget = 1; outcome = o }) 0 0
   unfolding firstRound
-  begins a low o e =
+  begins m ready a low o e =
       record {
         same-map = refl;
         same-length = refl;
+        ready = ready;
         underway = rw (e, first-low) (underway.begins (problemAt n start w₀) (holds .valid) a (outcomeOf o));
       }
 
-  module _ {a : ℕ} {w : List ℕ} {round : Round} {t q : ℕ} (s : BetweenQueries n start a w₀ w round t q) where
+  module _ {m a : ℕ} {w : List ℕ} {round : Round} {t q : ℕ} (s : BetweenQueries n m start a w₀ w round t q) where
     abbrev p : Problem
     p = problemAt n start w₀
 
@@ -84,10 +95,11 @@ module _ {n arcs start : ℕ} {w₀ : List ℕ} (holds : Holds n arcs start w₀
     unfolding problemAt
     start-low = underway.start-within-asked p (holds .valid) a (s .underway)
 
-    pub askable : (limit : ℕ) → limit ≡ limitIn round → Askable n arcs start limit w
+    pub askable : (limit : ℕ) → limit ≡ limitIn round → Askable n m arcs start limit w
     askable limit is =
         record {
           holds = holds-same n w w₀ (s .same-map) arcs start (s .same-length) holds;
+          ready = s .ready;
           start-within = rw (problem-same n w w₀ (s .same-map) start, is) start-low;
           limit-below = rw is limit-below;
         }
@@ -104,15 +116,15 @@ module _ {n arcs start : ℕ} {w₀ : List ℕ} (holds : Holds n arcs start w₀
     unfolding problemAt
     queries-below = omega (arith, query-left, laws.trace-length p (holds .valid), sizes)
 
-module _ {n arcs start a : ℕ} {w₀ w : List ℕ} {round : Round} {t q limit : ℕ} {w′ : List ℕ} {r : Asked}
-    (u : Turn n arcs start a w₀ w round t q limit w′ r) where
+module _ {n m arcs start a : ℕ} {w₀ w : List ℕ} {round : Round} {t q limit : ℕ} {w′ : List ℕ} {r : Asked}
+    (u : Turn n m arcs start a w₀ w round t q limit w′ r) where
   abbrev problem : Problem
   problem = problemAt n start w₀
 
   valid : Valid problem
   valid = u .holds .valid
 
-  answer : Answered n start (limitIn round) (round .budget) (a - t) w w′ r
+  answer : Answered n m start (limitIn round) (round .budget) (a - t) w w′ r
   answer = rw (u .limit-is) at (u .answered)
 
   same : problemAt n start w ≡ problem
@@ -170,20 +182,21 @@ module _ {n arcs start a : ℕ} {w₀ w : List ℕ} {round : Round} {t q limit :
           record { same-map = kept-map; means = rw (u .limit-is, count) (underway.ends-no-route problem valid a under-way (outcome None f) lasts) }
 
       -- a round follows
-      onward : (s : rounds.Round) → next problem (ask problem (roundOf round)) ≡ some s → BetweenQueries n start a w₀ w′ left (t + r .count) (q + 1)
+      onward : (s : rounds.Round) → next problem (ask problem (roundOf round)) ≡ some s → BetweenQueries n m start a w₀ w′ left (t + r .count) (q + 1)
       unfolding next ask problemAt
       onward s f =
           let is : roundOf left ≡ s = h .next s (rw (u .limit-is, asked-outcome) f) in
           record {
             same-map = kept-map;
             same-length = u .same-length ∙ u .between .same-length;
+            ready = answer .ready;
             underway = rw (count, h .carries, asked-outcome, is) (underway.goes-on problem valid a under-way s f lasts);
           }
 
-      pub turn-ended : {x : ℕ} → left .outcome ≡ Ended x → BetweenQueries n start a w₀ w′ left (t + r .count) (q + 1)
+      pub turn-ended : {x : ℕ} → left .outcome ≡ Ended x → BetweenQueries n m start a w₀ w′ left (t + r .count) (q + 1)
       turn-ended {x} f = onward _ (underway.after-ended problem (roundOf round) x (outcome (Ended x) f))
 
-      pub turn-over : left .outcome ≡ Over → BetweenQueries n start a w₀ w′ left (t + r .count) (q + 1)
+      pub turn-over : left .outcome ≡ Over → BetweenQueries n m start a w₀ w′ left (t + r .count) (q + 1)
       turn-over f = onward _ (underway.after-over problem (roundOf round) (outcome Over f))
 
       pub turn-goal : left .outcome ≡ Found → GoalLabelled n (r .place) w′

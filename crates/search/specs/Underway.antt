@@ -12,7 +12,7 @@ use Rattle.model.specs.Rounds as model
 use Rattle.model.specs.Rounds.{after, Step, trace}
 use Rattle.model.specs.Terms.{Run}
 use Rattle.scans.specs.Area.{labels, Labelled, HasParents}
-use Rattle.query.specs.Query.{outcomeOf}
+use Rattle.query.specs.Query.{Ready, outcomeOf}
 use Rattle.search.specs.Rounds.{highOf, roundOf}
 use Rattle.search.specs.declared.High.{High}
 use Rattle.query.specs.declared.Outcome.{Outcome}
@@ -57,8 +57,10 @@ pub record Underway (p : Problem) (allowance : ℕ) (r : model.Round) (o : query
   pub counted : queries ≡ length done
   pub last-outcome : (before : List Step) (s : Step) → done ≡ before ++ (s ∷ []) → s .query .outcome ≡ o
 
--- as a query begins: the map is as it was, the round is one of the search's, and its record carries the outcome of the query before
-pub record BetweenQueries (n start allowance : ℕ) (w₀ w : List ℕ) (round : Round) (total queries : ℕ) : Type 0 where
+-- as a query begins: the map is as it was, the open list is ready, the round is one of the search's, and its record carries the outcome of
+-- the query before
+pub record BetweenQueries (n nodes start allowance : ℕ) (w₀ w : List ℕ) (round : Round) (total queries : ℕ) : Type 0 where
   pub same-map : drop (endsAt n) w ≡ drop (endsAt n) w₀
   pub same-length : length w ≡ length w₀
+  pub ready : Ready n nodes w
   pub underway : Underway (problemAt n start w₀) allowance (roundOf round) (outcomeOf (round .outcome)) total queries

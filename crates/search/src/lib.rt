@@ -108,6 +108,7 @@ pub fn search(work: &mut [u32], size: Map, start: u32, allowance: u32) -> Verdic
     ensures { λ r. ⌜ Searched (size .places) start allowance (now (work .entry)) (now (work .exit)) r ⌝ }
 {
     let n = size.places;
+    let m = query::prepare(work, size);
     // No query yet; its outcome is read by nobody.
     let mut round = Round {
         low: work[layout::estimates_at(n) + start as usize],
@@ -121,7 +122,7 @@ pub fn search(work: &mut [u32], size: Map, start: u32, allowance: u32) -> Verdic
         let high = round.high;
         let limit = limit_of(round.low, high);
         queries += 1;
-        let asked = query::query(work, size, start, limit, round.budget, allowance - total);
+        let asked = query::query(work, size, m, start, limit, round.budget, allowance - total);
         total += asked.count;
         if asked.spent {
             return Verdict::Spent(round.low, total, queries);

@@ -1,4 +1,4 @@
--- The labels come back filled and the open list cleared; the map lies beyond both. Assumes nothing.
+-- The labels come back filled, and the open list, which they leave as it was, comes back cleared; the map lies beyond both. Assumes nothing.
 use Rattle.area.specs.Part.{part}
 use Rattle.query.proofs.Regions as laws
 use borrow.Author.Needs.{needs}
@@ -18,25 +18,29 @@ fill-requires : tie.Need-fill-requires
 fill-requires c κs = search needs
 
 words-requires : tie.Need-words-requires
-words-requires c κs = c .before .before .before .before .before .pre .enough .nodes
+words-requires c κs = c .before .before .before .before .before .pre .room .enough .nodes
 
 add-end : tie.Need-add-end
 add-end c = search needs
 
-mul-clear : tie.Need-mul-clear
-mul-clear c = search needs
+mul-reset : tie.Need-mul-reset
+mul-reset c = search needs
 
-sub-clear : tie.Need-sub-clear
-sub-clear c = search needs
+sub-reset : tie.Need-sub-reset
+sub-reset c = search needs
 
-part-clear-start : tie.Need-part-clear-start
-part-clear-start c = search needs
+part-reset-start : tie.Need-part-reset-start
+part-reset-start c = search needs
 
-part-clear-end : tie.Need-part-clear-end
-part-clear-end c = search needs
+part-reset-end : tie.Need-part-reset-end
+part-reset-end c = search needs
 
-clear-requires : tie.Need-clear-requires
-clear-requires c κs = search needs
+reset-requires : tie.Need-reset-requires
+unfolding part
+reset-requires c κs =
+    let start = c .before .before .before .before .before .before .before in
+    let fill = c .before .before .before .before .fill in
+    rw (c .before .words .ensures) (laws.still-used _ _ _ (start .pre) (fill .last .0) (fill .kept .0))
 
 same-length : tie.Need-same-length
 same-length c = search needs
@@ -47,8 +51,8 @@ returns c =
     let start = c .before .before .before .before .before .before .before .before .before .before in
     let fill = c .before .before .before .before .before .before .before .fill in
     let size = c .before .before .before .before .words .ensures in
-    let clear = c .before .before .clear in
-    rw size (laws.blank _ _ _ (start .pre) _ (fill .kept .0) _ (fill .ensures) (rw size at (clear .kept .0)) (clear .ensures))
+    let reset = c .before .before .reset in
+    rw size (laws.blank _ _ _ (start .pre) _ (fill .kept .0) _ (fill .ensures) (rw size at (reset .kept .0)) (reset .ensures))
 
 pub clear-spec : {M : Type 1} → statement M
 clear-spec =
@@ -60,10 +64,10 @@ clear-spec =
     fill-requires
     words-requires
     add-end
-    mul-clear
-    sub-clear
-    part-clear-start
-    part-clear-end
-    clear-requires
+    mul-reset
+    sub-reset
+    part-reset-start
+    part-reset-end
+    reset-requires
     same-length
     returns)

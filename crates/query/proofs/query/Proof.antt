@@ -23,17 +23,17 @@ use Rattle.query.proofs.query.Statement.{statement}
 use Rattle.query.proofs.query.Tie as tie
 
 abbrev Inv-loop : tie.InvT-loop
-Inv-loop work₀ start limit budget left n m end hand₀ count₀ work hand count = Searching n m start limit budget left work₀ hand work count
+Inv-loop work₀ m start limit budget left n end hand₀ count₀ work hand count = Searching n m start limit budget left work₀ hand work count
 
 abbrev μ-loop : tie.MeasureT-loop
-μ-loop work₀ start limit budget left n m end hand₀ count₀ work hand count = n - count
+μ-loop work₀ m start limit budget left n end hand₀ count₀ work hand count = n - count
 
 abbrev entry : tie.After-slice-known3 Inv-loop μ-loop → tie.Start Inv-loop μ-loop
-entry c = c .before .before .before .before .before .before .before .before .before .before .before .before
+entry c = c .before .before .before .before .before .before .before .before .before .before .before
 
 -- how many nodes the open list has, and that it ends where its words do
 abbrev nodes : tie.After-slice-known3 Inv-loop μ-loop → ℕ
-nodes c = c .before .before .before .before .before .before .before .before .before .before .nodes .result
+nodes c = entry c .args .m
 
 size : (c : tie.After-slice-known3 Inv-loop μ-loop) → c .before .before .before .before .before .before .before .before .before .words .result ≡ wordsOf (nodes c)
 size c = c .before .before .before .before .before .before .before .before .before .words .ensures
@@ -52,7 +52,8 @@ Under-at c =
 under : (c : tie.At-loop Inv-loop μ-loop) → Under-at c
 under c =
     let kept = c .before .before .before .arrive .kept .0 ∙ c .before .before .before .before .before .before .before .before .clear .kept .0 in
-    record { ask = underway.ask-same _ _ _ _ _ (entry (c .before) .pre) _ (same-map (c .before)) kept; search = c .loop .inv }
+    let list = c .before .before .before .arrive .ensures .list in
+    record { ask = underway.ask-same _ _ _ _ _ _ (entry (c .before) .pre) _ (same-map (c .before)) kept _ list; search = c .loop .inv }
 
 -- what the open list gives as its first
 first : (c : tie.After-place-of Inv-loop μ-loop)
@@ -80,21 +81,22 @@ None-at c =
 none-open : (c : tie.Then1 Inv-loop μ-loop) → None-at c
 none-open c = underway.none-open (under (c .before .before .before .before .before .before)) _ _ (first (c .before)) (omega (arith, c .if1 .taken))
 
+-- from where the first is taken back to where the loop begins
+abbrev begun : tie.Else1 Inv-loop μ-loop → tie.After-slice-known3 Inv-loop μ-loop
+begun c = c .before .before .before .before .before .before .before
+
 -- where a place is to be expanded, the first was taken
 abbrev turn : tie.Else4 Inv-loop μ-loop → tie.Else1 Inv-loop μ-loop
 turn c = c .before .before .before .before .before
 
-nodes-requires : tie.Need-nodes-requires Inv-loop μ-loop
-nodes-requires c κs = underway.ask-places _ _ _ _ _ (c .before .pre)
-
 words-requires : tie.Need-words-requires Inv-loop μ-loop
-words-requires c κs = c .nodes .ensures .nodes
+words-requires c κs = c .before .pre .ready .enough .nodes
 
 add-end : tie.Need-add-end Inv-loop μ-loop
 add-end c = search needs
 
 clear-requires : tie.Need-clear-requires Inv-loop μ-loop
-clear-requires c κs = underway.ask-room _ _ _ _ _ (c .before .before .before .before .pre) _ (c .before .before .nodes .ensures)
+clear-requires c κs = underway.ask-clears _ _ _ _ _ _ (c .before .before .before .pre)
 
 empty-requires : tie.Need-empty-requires Inv-loop μ-loop
 empty-requires c κs = search needs
@@ -102,13 +104,15 @@ empty-requires c κs = search needs
 arrive-requires : tie.Need-arrive-requires Inv-loop μ-loop
 arrive-requires c κs =
     let clear = c .before .before .before .before .clear in
-    underway.start-arrives _ _ _ _ _ (c .before .before .before .before .before .before .before .before .before .pre) _ (c .before .before .before .before .before .before .before .nodes .ensures) _ (clear .ensures) (clear .kept .0) _ (c .empty .ensures)
+    let start = c .before .before .before .before .before .before .before .before in
+    underway.start-arrives _ _ _ _ _ _ (start .pre) _ (clear .ensures) (clear .kept .0) _ (c .empty .ensures)
 
 loop-holds : tie.Need-loop-holds Inv-loop μ-loop
 loop-holds c =
     let clear = c .before .before .before .before .before .before .before .clear in
     let arrive = c .before .before .arrive in
-    underway.searching-starts _ _ _ _ _ _ (entry c .pre) (c .before .before .before .before .before .before .before .before .before .before .nodes .ensures) _ (clear .ensures) (clear .kept .0) _ (c .before .before .before .empty .ensures) _ _ (arrive .ensures) (arrive .kept .0) _ _
+    let empty = c .before .before .before .empty .ensures in
+    underway.searching-starts _ _ _ _ _ _ (entry c .pre) _ (clear .ensures) (clear .kept .0) _ empty _ _ (arrive .ensures) (arrive .kept .0) _ _
 
 mul-least : tie.Need-mul-least Inv-loop μ-loop
 mul-least c = search needs
@@ -145,7 +149,7 @@ returns : tie.Need-returns Inv-loop μ-loop
 returns c =
     let search = under (c .before .before .before .before .before .before .before .before) in
     let answered = answers.answered-settled search (none-open (c .before .before)) _ (c .all-settled .ensures) in
-    answers.answered-same _ _ _ _ _ _ _ _ _ (same-map (c .before .before .before .before .before .before .before .before .before)) answered
+    answers.answered-same _ _ _ _ _ _ _ _ _ _ (same-map (c .before .before .before .before .before .before .before .before .before)) answered
 
 goals-at-requires : tie.Need-goals-at-requires Inv-loop μ-loop
 goals-at-requires c κs = search needs
@@ -170,10 +174,11 @@ same-length-2 c = search needs
 
 returns-2 : tie.Need-returns-2 Inv-loop μ-loop
 returns-2 c =
-    let t = taken (c .before .before .before .before) in
+    let here = c .before .before .before .before in
+    let t = taken here in
     let goal = underway.taken-goal t _ (c .before .before .before .goals-at .ensures) (c .before .if2 .taken) in
-    rw (c .answered .ensures)
-    (answers.answered-same _ _ _ _ _ _ _ _ _ (same-map (c .before .before .before .before .before .before .before .before .before .before .before)) (answers.answered-goal (t .under) (t .first) goal))
+    let answered = answers.answered-goal (t .under) (t .first) goal in
+    rw (c .answered .ensures) (answers.answered-same _ _ _ _ _ _ _ _ _ _ (same-map (begun here)) answered)
 
 answered-requires-2 : tie.Need-answered-requires-2 Inv-loop μ-loop
 answered-requires-2 c κs = search needs
@@ -183,19 +188,26 @@ same-length-3 c = search needs
 
 returns-3 : tie.Need-returns-3 Inv-loop μ-loop
 returns-3 c =
-    let t = taken (c .before .before .before .before .before) in
+    let here = c .before .before .before .before .before in
+    let t = taken here in
     let no-goal = underway.taken-no-goal t _ (c .before .before .before .before .goals-at .ensures) (c .before .before .if2 .left) in
-    rw (c .answered2 .ensures)
-    (answers.answered-same _ _ _ _ _ _ _ _ _ (same-map (c .before .before .before .before .before .before .before .before .before .before .before .before)) (answers.answered-over (t .under) (t .first) no-goal (c .before .if3 .taken)))
+    let answered = answers.answered-over (t .under) (t .first) no-goal (c .before .if3 .taken) in
+    rw (c .answered2 .ensures) (answers.answered-same _ _ _ _ _ _ _ _ _ _ (same-map (begun here)) answered)
+
+answered-requires-3 : tie.Need-answered-requires-3 Inv-loop μ-loop
+answered-requires-3 c κs = search needs
 
 same-length-4 : tie.Need-same-length-4 Inv-loop μ-loop
 same-length-4 c = search needs
 
 returns-4 : tie.Need-returns-4 Inv-loop μ-loop
 returns-4 c =
-    let t = taken (c .before .before .before .before .before) in
-    let no-goal = underway.taken-no-goal t _ (c .before .before .before .before .goals-at .ensures) (c .before .before .if2 .left) in
-    answers.answered-same _ _ _ _ _ _ _ _ _ (same-map (c .before .before .before .before .before .before .before .before .before .before .before .before)) (answers.answered-spent (t .under) (t .first) no-goal (c .before .if3 .left) (c .if4 .taken))
+    let then = c .before in
+    let here = then .before .before .before .before .before in
+    let t = taken here in
+    let no-goal = underway.taken-no-goal t _ (then .before .before .before .before .goals-at .ensures) (then .before .before .if2 .left) in
+    let answered = answers.answered-spent (t .under) (t .first) no-goal (then .before .if3 .left) (then .if4 .taken) in
+    rw (c .answered3 .ensures) (answers.answered-same _ _ _ _ _ _ _ _ _ _ (same-map (begun here)) answered)
 
 settle-requires : tie.Need-settle-requires Inv-loop μ-loop
 settle-requires c κs = expansions.turn-settles (taken (turn (c .before)))
@@ -229,7 +241,6 @@ query-spec =
     (tie.spec
     Inv-loop
     μ-loop
-    nodes-requires
     words-requires
     add-end
     clear-requires
@@ -258,6 +269,7 @@ query-spec =
     answered-requires-2
     same-length-3
     returns-3
+    answered-requires-3
     same-length-4
     returns-4
     settle-requires

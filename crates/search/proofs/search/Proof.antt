@@ -1,66 +1,97 @@
 -- The invariant: the queries done, whose total the allowance lasts for, and those from the round on are the search's; the round's record
--- carries the outcome of the last one done; the map is as it was. The measure is the number of queries left.
+-- carries the outcome of the last one done; the map is as it was, and the open list is ready. The measure is the number of queries left.
 -- Assumes nothing.
-use mathlib.Core.Path.{ap}
+use mathlib.Core.Path.{_≡_, ap, _∙_}
+use mathlib.Core.List.{List}
 use Prim.Native.Nat.{ℕ, _+_, _-_}
 use native.Mathlib.Omega.{arith}
 use borrow.Author.Needs.{needs}
-use lib.ListN.{length, getD}
-use Rattle.map.specs.Layout.{problemAt}
+use lib.ListN.{length, getD, drop}
+use Rattle.map.specs.Layout.{endsAt, problemAt, Holds}
 use Rattle.model.specs.Rounds.{trace}
+use Rattle.map.proofs.Held.{holds-same}
 use Rattle.search.specs.Underway.{BetweenQueries}
 use Rattle.search.proofs.RoundTurns as turns
 use Rattle.search.proofs.search.Statement.{statement}
 use Rattle.search.proofs.search.Tie as tie
 
 abbrev Inv-loop : tie.InvT-loop
-Inv-loop work₀ size start allowance n round₀ total₀ queries₀ work round total queries =
-    BetweenQueries n start allowance work₀ work round total queries
+Inv-loop work₀ size start allowance n m round₀ total₀ queries₀ work round total queries =
+    BetweenQueries n m start allowance work₀ work round total queries
 
 abbrev μ-loop : tie.MeasureT-loop
-μ-loop work₀ size start allowance n round₀ total₀ queries₀ work round total queries =
+μ-loop work₀ size start allowance n m round₀ total₀ queries₀ work round total queries =
     length (trace (problemAt n start work₀)) - queries
+
+abbrev entry : tie.After-slice-known2 Inv-loop μ-loop → tie.Start Inv-loop μ-loop
+entry c = c .before .before .before .before .before
+
+-- the area in which the open list is ready; it holds the map that was there at entry
+abbrev area : tie.After-slice-known2 Inv-loop μ-loop → List ℕ
+area c = c .before .before .prepare .last .0
+
+abbrev Same-at : tie.After-slice-known2 Inv-loop μ-loop → Type 0
+Same-at c = let a = entry c .args in drop (endsAt (a .size .places)) (area c) ≡ drop (endsAt (a .size .places)) (a .work .now)
+
+same-map : (c : tie.After-slice-known2 Inv-loop μ-loop) → Same-at c
+same-map c = c .before .before .prepare .ensures .same-map
+
+abbrev Holds-at : tie.After-slice-known2 Inv-loop μ-loop → Type 0
+Holds-at c = let a = entry c .args in Holds (a .size .places) (a .size .arcs) (a .start) (area c)
+
+holds : (c : tie.After-slice-known2 Inv-loop μ-loop) → Holds-at c
+holds c = holds-same _ _ _ (same-map c) _ _ (c .before .before .prepare .kept .0) (entry c .pre)
+
+-- where the queries have begun
+abbrev began : tie.At-loop Inv-loop μ-loop → tie.After-slice-known2 Inv-loop μ-loop
+began c = c .before .before .before
 
 -- the turn whose query has ended
 abbrev Turn-at : tie.After-query Inv-loop μ-loop → Type 0
 Turn-at c =
-    let entry = c .before .before .before .before .before .before .before .args in
+    let start = began (c .before .before .before) in
+    let a = entry start .args in
+    let m = start .before .before .prepare .result in
     let loop = c .before .before .before .loop in
-    turns.Turn (entry .size .places) (entry .size .arcs) (entry .start) (entry .allowance) (entry .work .now) (loop .work) (loop .round)
+    turns.Turn (a .size .places) m (a .size .arcs) (a .start) (a .allowance) (area start) (loop .work) (loop .round)
     (loop .total) (loop .queries) (c .before .before .limit-of .result) (c .query .last .0) (c .query .result)
 
 turn : (c : tie.After-query Inv-loop μ-loop) → Turn-at c
 turn c =
     record {
-      holds = c .before .before .before .before .before .before .before .pre;
+      holds = holds (began (c .before .before .before));
       between = c .before .before .before .loop .inv;
       limit-is = c .before .before .limit-of .ensures;
       answered = c .query .ensures;
       same-length = c .query .kept .0;
     }
 
+prepare-requires : tie.Need-prepare-requires Inv-loop μ-loop
+prepare-requires c κs = turns.preparable (c .before .before .pre)
+
 estimates-at-requires : tie.Need-estimates-at-requires Inv-loop μ-loop
-estimates-at-requires c κs = turns.sizes (c .before .pre) .few
+estimates-at-requires c κs = turns.sizes (holds c) .few
 
-add-t16 : tie.Need-add-t16 Inv-loop μ-loop
-add-t16 c = record { fits = omega (arith, c .estimates-at .ensures, turns.sizes (c .before .before .pre)) }
+add-t19 : tie.Need-add-t19 Inv-loop μ-loop
+add-t19 c = record { fits = omega (arith, c .estimates-at .ensures, turns.sizes (holds (c .before))) }
 
-mul-t17 : tie.Need-mul-t17 Inv-loop μ-loop
-mul-t17 c = record { fits = omega (arith, c .estimates-at .ensures, turns.sizes (c .before .before .pre)) }
+mul-t20 : tie.Need-mul-t20 Inv-loop μ-loop
+mul-t20 c = record { fits = omega (arith, c .estimates-at .ensures, turns.sizes (holds (c .before))) }
 
-slice-read-t19 : tie.Need-slice-read-t19 Inv-loop μ-loop
-slice-read-t19 c = omega (arith, c .before .estimates-at .ensures, turns.sizes (c .before .before .before .pre))
+slice-read-t22 : tie.Need-slice-read-t22 Inv-loop μ-loop
+slice-read-t22 c = omega (arith, c .before .estimates-at .ensures, turns.sizes (holds (c .before .before)))
 
 loop-holds : tie.Need-loop-holds Inv-loop μ-loop
 loop-holds c =
-    let entry = c .before .before .before in
-    turns.begins (entry .pre) _ _ _ (ap (λ (i : ℕ). getD (entry .args .work .now) (i + entry .args .start) 0) (c .before .estimates-at .ensures))
+    let start = c .before .before in
+    let low = ap (λ (i : ℕ). getD (area start) (i + entry start .args .start) 0) (c .before .estimates-at .ensures) in
+    turns.begins (holds start) _ (start .before .before .prepare .ensures .ready) _ _ _ low
 
 limit-of-requires : tie.Need-limit-of-requires Inv-loop μ-loop
-limit-of-requires c κs = turns.limit-below (c .before .before .before .before .pre) (c .loop .inv)
+limit-of-requires c κs = turns.limit-below (holds (began c)) (c .loop .inv)
 
 add-queries : tie.Need-add-queries Inv-loop μ-loop
-add-queries c = record { fits = omega (arith, turns.queries-below (c .before .before .before .before .before .pre) (c .before .loop .inv)) }
+add-queries c = record { fits = omega (arith, turns.queries-below (holds (began (c .before))) (c .before .loop .inv)) }
 
 sub-query : tie.Need-sub-query Inv-loop μ-loop
 sub-query c = c .before .before .loop .inv .underway .lasts
@@ -68,7 +99,7 @@ sub-query c = c .before .before .loop .inv .underway .lasts
 query-requires : tie.Need-query-requires Inv-loop μ-loop
 query-requires c κs =
     let loop = c .before .before in
-    turns.askable (loop .before .before .before .before .pre) (loop .loop .inv) _ (c .before .limit-of .ensures)
+    turns.askable (holds (began loop)) (loop .loop .inv) _ (c .before .limit-of .ensures)
 
 add-total : tie.Need-add-total Inv-loop μ-loop
 add-total c = record { fits = omega (arith, turns.total-within (turn (c .before .before .before))) }
@@ -77,7 +108,9 @@ same-length : tie.Need-same-length Inv-loop μ-loop
 same-length c = search needs
 
 returns : tie.Need-returns Inv-loop μ-loop
-returns c = turns.turn-spent (turn (c .before .before .before .before)) (c .if1 .taken)
+returns c =
+    let query = c .before .before .before .before in
+    turns.searched-same (same-map (began (query .before .before .before))) (turns.turn-spent (turn query) (c .if1 .taken))
 
 after-requires : tie.Need-after-requires Inv-loop μ-loop
 after-requires c κs =
@@ -94,14 +127,18 @@ found-requires c κs =
     turns.turn-goal t (after .before .if1 .left) _ (after .after .ensures) (c .before .enum-told .given .1)
 
 same-length-2 : tie.Need-same-length-2 Inv-loop μ-loop
-same-length-2 c = search needs
+same-length-2 c =
+    let query = c .before .before .before .before .before .before .before .before .before .before .before in
+    let loop = query .before .before .before in
+    c .before .before .found .kept .0 ∙ query .query .kept .0 ∙ loop .loop .inv .same-length ∙ began loop .before .before .prepare .kept .0
 
 returns-2 : tie.Need-returns-2 Inv-loop μ-loop
 returns-2 c =
     let after = c .before .before .before .before .before .before in
-    let t = turn (after .before .before .before .before .before) in
+    let query = after .before .before .before .before .before in
     let told = c .before .before .before .before .enum-told .given .1 in
-    turns.turn-routed t (after .before .if1 .left) _ (after .after .ensures) _ _ told (c .before .before .found .ensures)
+    let routed = turns.turn-routed (turn query) (after .before .if1 .left) _ (after .after .ensures) _ _ told (c .before .before .found .ensures) in
+    turns.searched-same (same-map (began (query .before .before .before))) routed
 
 enum-told-2 : tie.Need-enum-told-2 Inv-loop μ-loop
 enum-told-2 c = search needs
@@ -112,8 +149,9 @@ same-length-3 c = search needs
 returns-3 : tie.Need-returns-3 Inv-loop μ-loop
 returns-3 c =
     let after = c .before .before in
-    let t = turn (after .before .before .before .before .before) in
-    turns.turn-no-route t (after .before .if1 .left) _ (after .after .ensures) (c .enum-told2 .given .1)
+    let query = after .before .before .before .before .before in
+    let none = turns.turn-no-route (turn query) (after .before .if1 .left) _ (after .after .ensures) (c .enum-told2 .given .1) in
+    turns.searched-same (same-map (began (query .before .before .before))) none
 
 enum-told-3 : tie.Need-enum-told-3 Inv-loop μ-loop
 enum-told-3 c = search needs
@@ -149,10 +187,11 @@ search-spec =
     (tie.spec
     Inv-loop
     μ-loop
+    prepare-requires
     estimates-at-requires
-    add-t16
-    mul-t17
-    slice-read-t19
+    add-t19
+    mul-t20
+    slice-read-t22
     loop-holds
     limit-of-requires
     add-queries
