@@ -18,13 +18,14 @@ int turns(const Map &m)
     return static_cast<int>(std::min(100 * 4096 / m.places, 2000u));
 }
 
-// processor time, so that what else runs on the machine does not count
+// Elapsed time: the fastest of many calls is one that nothing interrupted. A thread's processor time jumps on some virtual machines, so that a call
+// seems to take no time at all.
 double seconds(const std::function<void()> &call)
 {
     timespec before, after;
-    clock_gettime(CLOCK_THREAD_CPUTIME_ID, &before);
+    clock_gettime(CLOCK_MONOTONIC, &before);
     call();
-    clock_gettime(CLOCK_THREAD_CPUTIME_ID, &after);
+    clock_gettime(CLOCK_MONOTONIC, &after);
     return static_cast<double>(after.tv_sec - before.tv_sec) + 1e-9 * static_cast<double>(after.tv_nsec - before.tv_nsec);
 }
 
