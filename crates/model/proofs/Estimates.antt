@@ -1,6 +1,6 @@
 -- Document 01's map A, where the true distance of place 1 is 4: with any estimate up to 4 there, as in P1, nothing overstates; with any above, as in P5,
 -- place 1 does.
-use mathlib.Core.Path.{_≡_, refl}
+use mathlib.Core.Path.{refl}
 use mathlib.Core.Bool.{Bool}
 use mathlib.Core.List.{[], _∷_, _++_, List·Memᴰ·head, List·Memᴰ·tail}
 use Prim.Native.Nat.{ℕ, zero, suc, _+_, _≤_, _<_}

@@ -26,7 +26,7 @@ use Rattle.model.proofs.Lists.{none-some}
 use Rattle.model.proofs.Indices.{getD-default}
 use Rattle.model.proofs.Routes.{parentBy-some}
 use Rattle.scans.specs.Area.{wordOr, labels, Labelled, parentAt, HasParents}
-use Rattle.scans.specs.Scans.{passed, ArcWord, parentStored, Kept, parentFrom, ParentsOver, ParentsRow, ParentsBelow, Parenting, ParentsUpTo}
+use Rattle.scans.specs.Scans.{ArcWord, parentStored, Kept, parentFrom, ParentsOver, ParentsRow, ParentsBelow, Parenting, ParentsUpTo}
 use Rattle.scans.proofs.Words.{wordOr-none, wordOr-some, label-at, unlabelled}
 use Rattle.scans.proofs.Least.{lesser-below, word-step}
 use Rattle.map.proofs.Held.{map-word, rows-same}
