@@ -18,7 +18,7 @@ use Rattle.model.specs.Sheets.{routeSheet, noRouteSheet, readSheet}
 use Rattle.model.specs.Jobs.{routeJob, noRouteJob, ample, putHead}
 use Rattle.model.proofs.Sheets.{Possible, accepted-route, accepted-no-route}
 use Rattle.model.proofs.Laws.{total-at-most-2}
-use Rattle.model.specs.Calls.{Call, IsAccepted, result, problem, allowance, Defined, Writes}
+use Rattle.model.specs.Calls.{Call, IsAccepted, written, result, problem, allowance, Defined, Writes}
 use Rattle.model.proofs.Promises.{FindsRoute, ends, route-if-reachable, none-if-unreachable, spent-by-number}
 use Rattle.model.proofs.PlainJobs.{plain, putArcs, plainJob, plain-bytes, plain-framed, plain-states, plain-problem}
 use Rattle.model.proofs.PlainAccepted.{plain-accepted}
@@ -75,6 +75,19 @@ module _ (input : List ℕ) (arcs : List Arc) (start goal : ℕ) (is : input ≡
   unfolding plain
   call-ample = rw (call-problem, call-allowance) (omega arith)
 
+  call-writes : {n : ℕ} {b : List ℕ} → result plainCall .answer .number ≡ n → written (result plainCall) ≡ b → Writes Defined input n b
+  unfolding plainCall callOn
+  call-writes number on-sheet =
+      record {
+        call = plainCall;
+        after = result plainCall;
+        comes = refl;
+        is-job = refl;
+        accepted = call-accepted;
+        number = number;
+        on-sheet = on-sheet;
+      }
+
   -- where every route is the same one, it is the one on the sheet
   only-route-written : (cost : ℕ) (r : List ℕ) → GoalReachable (plain arcs start goal)
       → ((c : ℕ) (s : List ℕ) → Route (plain arcs start goal) c s → (c ≡ cost) × (s ≡ r)) → Writes Defined input 0 (routeSheet cost r)
@@ -87,15 +100,7 @@ module _ (input : List ℕ) (arcs : List Arc) (start goal : ℕ) (is : input ≡
       from-sheet : Admissible (problem plainCall) → FindsRoute (problem plainCall) (allowance plainCall) (result plainCall) → Writes Defined input 0 (routeSheet cost r)
       from-sheet admissible sheet =
           let same = only (result plainCall .answer .cost) (sheet .places) (rw call-problem at (sheet .first-cheapest admissible .first .member)) in
-          record {
-            call = plainCall;
-            after = result plainCall;
-            comes = refl;
-            is-job = refl;
-            accepted = call-accepted;
-            number = sheet .number;
-            on-sheet = sheet .on-sheet ∙ ap₂ routeSheet (same .0) (same .1);
-          }
+          call-writes (sheet .number) (sheet .on-sheet ∙ ap₂ routeSheet (same .0) (same .1))
 
   unreachable-written : (GoalReachable (plain arcs start goal) → ⊥) → Writes Defined input 17 (noRouteSheet start)
   unfolding plain plainCall callOn
@@ -105,15 +110,7 @@ module _ (input : List ℕ) (arcs : List Arc) (start goal : ℕ) (is : input ≡
       let unspent : result plainCall .answer .number ≡ 16 → ⊥ = λ n. let s = spent-by-number e n in let enough = call-ample in omega arith in
       let started : problem plainCall .start ≡ start = ap (λ (p : Problem). p .start) call-problem in
       let found = none-if-unreachable e unspent none in
-      record {
-        call = plainCall;
-        after = result plainCall;
-        comes = refl;
-        is-job = refl;
-        accepted = call-accepted;
-        number = found .number;
-        on-sheet = found .on-sheet ∙ ap noRouteSheet started;
-      }
+      call-writes (found .number) (found .on-sheet ∙ ap noRouteSheet started)
 
 -- the job of a route is that of its chain
 route-job : (cost : ℕ) (places : List ℕ) → Possible cost places
