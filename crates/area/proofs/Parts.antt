@@ -49,7 +49,8 @@ part-append b f xs ys l h =
 pub part-back : (a e : ℕ) (xs ys : List ℕ) → a ≤ e → e ≤ length xs → length ys ≡ length (part a e xs) → part a e (putMid a (e - a) xs ys) ≡ ys
 unfolding part
 part-back a e xs ys h l g =
-    rw (drop-at (take a xs) (ys ++ drop (e - a) (drop a xs)) a (length-take-le a xs (omega arith)), take-at ys (drop (e - a) (drop a xs)) (e - a) (g ∙ part-length a e xs l))
+    let before = drop-at (take a xs) (ys ++ drop (e - a) (drop a xs)) a (length-take-le a xs (omega arith)) in
+    rw (before, take-at ys (drop (e - a) (drop a xs)) (e - a) (g ∙ part-length a e xs l))
 
 -- a part before it
 pub part-back-low : (a e : ℕ) (xs ys : List ℕ) (b f : ℕ) → a ≤ e → e ≤ length xs → b ≤ f → f ≤ a → part b f (putMid a (e - a) xs ys) ≡ part b f xs
@@ -60,7 +61,8 @@ part-back-low a e xs ys b f h l g i =
     ∙ ap (λ (x : List ℕ). part b f x) (take-append-drop a xs)
 
 -- a part after it
-pub drop-back : (a e : ℕ) (xs ys : List ℕ) (b : ℕ) → a ≤ e → e ≤ length xs → length ys ≡ length (part a e xs) → e ≤ b → drop b (putMid a (e - a) xs ys) ≡ drop b xs
+pub drop-back : (a e : ℕ) (xs ys : List ℕ) (b : ℕ) → a ≤ e → e ≤ length xs → length ys ≡ length (part a e xs) → e ≤ b
+    → drop b (putMid a (e - a) xs ys) ≡ drop b xs
 drop-back a e xs ys b h l g i = less-after b e xs (putMid a (e - a) xs ys) i (drop-put a e xs ys h l (g ∙ part-length a e xs l))
 
 pub back-length : (a e : ℕ) (xs ys : List ℕ) → length ys ≡ length (part a e xs) → length (putMid a (e - a) xs ys) ≡ length xs

@@ -20,7 +20,8 @@ sets-front vs l h =
     sets-eq vs l 0 (omega arith) ∙ rw z
 
 -- two fields of 2 bytes, one after the other, are one of 4
-pub two-fields : {s₁ s : List ℕ} (s₀ : List ℕ) (x i : ℕ) → s₁ ≡ sets s₀ i (put16 x) → s ≡ sets s₁ (i + 2) (put16 (x / 65536)) → s ≡ sets s₀ i (put32 x)
+pub two-fields : {s₁ s : List ℕ} (s₀ : List ℕ) (x i : ℕ) → s₁ ≡ sets s₀ i (put16 x) → s ≡ sets s₁ (i + 2) (put16 (x / 65536))
+    → s ≡ sets s₀ i (put32 x)
 unfolding put16 put32
 two-fields s₀ x i low high =
     let last : x / 65536 / 256 ≡ x / 16777216 = omega arith in

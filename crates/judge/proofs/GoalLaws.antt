@@ -7,8 +7,8 @@ use native.Mathlib.Omega.{arith}
 use lib.Dec.{ltb, leb}
 use borrow.Author.Tests.{ltb-true, ltb-false, lt-ltb, le-ltb}
 use Rattle.judge.specs.declared.goals.Goals.{Goals}
-use Rattle.judge.specs.Goals.{estimatedAt, note, nothing, Walked, Checked}
-use Rattle.judge.proofs.Flags.{some-sets}
+use Rattle.judge.specs.Goals.{estimatedAt, note, nothing, GoalsWalked, Checked}
+use Rattle.model.proofs.Tests.{some-sets}
 use Rattle.model.specs.Bytes.{u16, u16s}
 use Rattle.model.specs.Lists.{rises}
 
@@ -47,8 +47,8 @@ u16s-cons zero b i h = absurd (omega arith)
 u16s-cons (suc k) b i h = let back : suc k - 1 ≡ k = omega arith in rw back
 
 module _ (input goals : List ℕ) (n : ℕ) (marks : List ℕ) where
-  pub walk-again : (at left : ℕ) (s t : Goals) → Walked input goals n marks at left s → 0 < left → t ≡ note n marks s (u16 input at)
-      → Walked input goals n marks (at + 2) (left - 1) t
+  pub walk-again : (at left : ℕ) (s t : Goals) → GoalsWalked input goals n marks at left s → 0 < left → t ≡ note n marks s (u16 input at)
+      → GoalsWalked input goals n marks (at + 2) (left - 1) t
   walk-again at left s t w h e =
       let more = w .inside in
       record {
@@ -58,7 +58,7 @@ module _ (input goals : List ℕ) (n : ℕ) (marks : List ℕ) where
             ∙ w .noted;
       }
 
-  pub walk-checked : (at left : ℕ) (s : Goals) → Walked input goals n marks at left s → left ≡ 0 → Checked goals n marks s
+  pub walk-checked : (at left : ℕ) (s : Goals) → GoalsWalked input goals n marks at left s → left ≡ 0 → Checked goals n marks s
   unfolding u16s note
   walk-checked at left s w e =
       let all : s ≡ foldl (note n marks) nothing goals = sym (ap (λ (k : ℕ). foldl (note n marks) s (u16s k input at)) e) ∙ w .noted in

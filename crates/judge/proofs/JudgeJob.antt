@@ -1,115 +1,125 @@
--- The judgement of the one job and of the lent areas. Assumes nothing.
+-- The judgement of the one job. Assumes nothing.
 use mathlib.Core.Path.{_≡_, refl, ap, sym, _∙_}
-use mathlib.Core.Bool.{Bool, true, false, not, _||_}
+use mathlib.Core.Bool.{Bool, true, false, cond, not, _||_}
 use mathlib.Core.List.{List}
 use mathlib.Core.Logic.{_≢_}
-use Prim.Native.Nat.{ℕ, _+_, _*_}
+use Prim.Native.Nat.{ℕ}
 use native.Mathlib.Omega.{arith}
-use lib.Dec.{ltb, leb, eqb}
-use lib.ListN.{drop}
-use borrow.Author.Tests.{leb-false, lt-ltb}
-use Rattle.map.specs.declared.Map.{Map}
-use Rattle.map.specs.declared.Job.{Job}
-use Rattle.judge.specs.declared.Judgement.the-variants.{Refused, Accepted}
+use lib.Dec.{leb, eqb}
+use borrow.Author.Tests.{lt-ltb, leb-false, eq-eqb, ne-eqb}
+use Rattle.judge.specs.declared.Judgement.the-variants.{Accepted, Refused}
 use Rattle.judge.specs.declared.goals.Goals.{Goals}
-use Rattle.judge.specs.Judge.{Judged}
-use Rattle.map.specs.Jobs.{States}
+use Rattle.judge.specs.declared.survey.Survey.{Survey}
 use Rattle.judge.specs.Goals.{estimatedAt, Checked}
-use Rattle.judge.specs.Verdict.{jobNumber, roomNumber, jobOf, goalsWrong, OneJob}
-use Rattle.judge.proofs.Groups.{given, not-given}
+use Rattle.judge.specs.Judge.{Judged}
+use Rattle.judge.specs.Numbers.{noNumber}
+use Rattle.judge.specs.Verdict.{goalsWrong, goalsNumber, OneJob}
 use Rattle.judge.proofs.JudgeMap.{refused}
-use Rattle.map.proofs.Parts.{u16-drop, u32-drop, u16s-drop}
-use Rattle.judge.proofs.Flags.{any-same}
-use Rattle.model.specs.Bytes.{u16, u32, u16s}
+use Rattle.model.proofs.Tests.{any-same}
+use Rattle.map.specs.declared.Job.{Job}
+use Rattle.map.specs.declared.Site.{Site}
+use Rattle.map.specs.Items.{jobOf}
+use Rattle.map.specs.Jobs.{States}
+use Rattle.model.specs.Bytes.{u16s}
 use Rattle.model.specs.Framing.{frame}
-use Rattle.model.specs.Input.{startOf, allowanceOf, goalsOf, estimatesOf, lookup}
+use Rattle.model.specs.Items as model
 use Rattle.model.specs.Lists.{any}
-use Rattle.model.specs.Refusals.{jobOutsideMap, wrongGoals, goalEstimate, workWords, shortWork, shortSheet, refusal}
+use Rattle.model.specs.Refusals.{jobOutsideMap, wrongGoals, goalEstimate, jobRows, firstThatHolds, inputRefusal}
+use Rattle.model.specs.Stated.{Stated, stated, lookup}
+use Rattle.model.proofs.Acceptance.{states-growth}
 use Rattle.model.proofs.Bytes.{u16s-length}
 use Rattle.model.proofs.Lists.{neither, any-false}
 
-module _ (input : List ℕ) (map : Map) (at : ℕ) (marks : List ℕ) (j : OneJob input map at marks) where
-  start-at : u16 input (at + 0) ≡ startOf (frame input .records)
-  unfolding startOf
-  start-at = sym (u16-drop at input 0 (at + 0) refl) ∙ ap (λ (b : List ℕ). u16 b 0) (j .body)
+module _ (input marks : List ℕ) (s : Survey) (j : OneJob input marks s) where
+  abbrev st : Stated
+  st = stated (frame input .records)
 
-  allowance-at : u32 input (at + 2) ≡ allowanceOf (frame input .records)
-  unfolding allowanceOf
-  allowance-at = sym (u32-drop at input 2 (at + 2) refl) ∙ ap (λ (b : List ℕ). u32 b 2) (j .body)
+  abbrev goals : List ℕ
+  goals = u16s (s .job .goals) input (s .job .«goals_at»)
+
+  start-same : s .job .start ≡ st .job .start
+  unfolding jobOf
+  start-same = ap (λ (x : model.Job). x .start) (j .job)
+
+  allowance-same : s .job .allowance ≡ st .job .allowance
+  unfolding jobOf
+  allowance-same = ap (λ (x : model.Job). x .allowance) (j .job)
+
+  goals-same : goals ≡ st .job .goals
+  unfolding jobOf
+  goals-same = ap (λ (x : model.Job). x .goals) (j .job)
 
   abbrev aboveZero : ℕ → Bool
-  aboveZero v = not (eqb (lookup (estimatesOf (frame input .records)) v) 0)
+  aboveZero v = not (eqb (lookup 0 (st .estimates) v) 0)
 
-  module _ (k : ℕ) (count : k ≡ u16 input (at + 6)) where
-    goals-at : u16s k input (at + 8) ≡ goalsOf (frame input .records)
-    unfolding goalsOf
-    goals-at =
-        sym (u16s-drop at input k 8 (at + 8) refl)
-        ∙ ap (λ (n : ℕ). u16s n (drop at input) 8) (count ∙ sym (u16-drop at input 6 (at + 6) refl))
-        ∙ ap (λ (b : List ℕ). u16s (u16 b 6) b 8) (j .body)
+  module _ (g : Goals) (c : Checked goals (s .places) marks g) (start : ℕ) (is-start : start ≡ s .job .start) (w : Bool)
+      (is-wrong : w ≡ goalsWrong (s .job .goals) (g .falls)) where
+    outside-same : (leb (s .places) start || g .outside) ≡ jobOutsideMap st
+    unfolding jobOutsideMap
+    outside-same = rw (c .outside, goals-same, is-start, start-same, j .places)
 
-    abbrev gs : List ℕ
-    gs = u16s k input (at + 8)
+    wrong-same : w ≡ wrongGoals st
+    unfolding wrongGoals
+    wrong-same =
+        let long = u16s-length (s .job .goals) input (s .job .«goals_at») in
+        is-wrong ∙ rw (← goals-same, long, c .falls)
 
-    -- 11 to 13
-    module _ (g : Goals) (c : Checked gs (map .places) marks g) (start : ℕ) (is-start : start ≡ u16 input (at + 0)) (w : Bool)
-        (is-wrong : w ≡ goalsWrong k (g .falls)) where
-      outside-same : (leb (map .places) start || g .outside) ≡ jobOutsideMap (frame input .records)
-      unfolding jobOutsideMap
-      outside-same = rw (c .outside, goals-at, is-start, start-at, j .places)
+    estimated-same : jobOutsideMap st ≡ false → g .estimated ≡ goalEstimate st
+    unfolding goalEstimate
+    estimated-same inside =
+        let below = neither (leb (s .places) start) _ (outside-same ∙ inside) .1 in
+        c .estimated
+        ∙ any-same (estimatedAt (s .places) marks) aboveZero goals (λ v i.
+        let h = leb-false _ _ (any-false (leb (s .places)) goals (sym (c .outside) ∙ below) v i) in
+        rw (lt-ltb v (s .places) h) (j .estimated v h))
+        ∙ ap (any aboveZero) goals-same
 
-      wrong-same : w ≡ wrongGoals (frame input .records)
-      unfolding wrongGoals
-      wrong-same = let long = u16s-length k input (at + 8) in is-wrong ∙ rw (← goals-at, long, c .falls)
+    module _ (n : ℕ) (is : n ≡ goalsNumber (leb (s .places) start || g .outside) w (g .estimated)) where
+      job-same : n ≡ goalsNumber (jobOutsideMap st) (wrongGoals st) (goalEstimate st)
+      job-same = is ∙ rw (outside-same, wrong-same) (go (jobOutsideMap st) estimated-same)
+        where
+          go : (t : Bool) → (t ≡ false → g .estimated ≡ goalEstimate st)
+              → goalsNumber t (wrongGoals st) (g .estimated) ≡ goalsNumber t (wrongGoals st) (goalEstimate st)
+          go true h = refl
+          go false h = rw (h refl)
 
-      estimated-same : jobOutsideMap (frame input .records) ≡ false → g .estimated ≡ goalEstimate (frame input .records)
-      unfolding goalEstimate
-      estimated-same inside =
-          let below = neither (leb (map .places) start) _ (outside-same ∙ inside) .1 in
-          c .estimated
-          ∙ any-same (estimatedAt (map .places) marks) aboveZero gs (λ v i.
-          let h = leb-false _ _ (any-false (leb (map .places)) gs (sym (c .outside) ∙ below) v i) in
-          rw (lt-ltb v (map .places) h) (j .estimated v h))
-          ∙ ap (any aboveZero) goals-at
+      -- the number that is given, with 0 for none
+      refusal-same : inputRefusal (frame input) ≡ cond (eqb n noNumber) 0 n
+      unfolding jobRows firstThatHolds
+      refusal-same = j .number ∙ rw (j .right, job-same) (go (jobOutsideMap st) (wrongGoals st) (goalEstimate st))
+        where
+          go : (a b c : Bool) → cond a 11 (cond b 12 (cond c 13 0)) ≡ cond (eqb (goalsNumber a b c) noNumber) 0 (goalsNumber a b c)
+          go true b c = refl
+          go false true c = refl
+          go false false true = refl
+          go false false false = refl
 
-      module _ (n : ℕ) (is : n ≡ jobNumber (leb (map .places) start || g .outside) w (g .estimated)) where
-        job-same : n ≡ jobOf (frame input .records)
-        job-same = is ∙ rw (outside-same, wrong-same) (go (jobOutsideMap (frame input .records)) estimated-same)
-          where
-            go : (t : Bool) → (t ≡ false → g .estimated ≡ goalEstimate (frame input .records))
-                → jobNumber t (wrongGoals (frame input .records)) (g .estimated)
-                ≡ jobNumber t (wrongGoals (frame input .records)) (goalEstimate (frame input .records))
-            go true h = refl
-            go false h = rw (h refl)
+      pub goals-refused : n ≢ noNumber → Judged input (Refused n)
+      goals-refused h =
+          let given : inputRefusal (frame input) ≡ n = refusal-same ∙ rw (ne-eqb n noNumber h) in
+          refused input n given (positive (jobOutsideMap st) (wrongGoals st) (goalEstimate st) job-same)
+        where
+          positive : (a b c : Bool) → n ≡ goalsNumber a b c → n ≢ 0
+          positive true b c e z = omega arith
+          positive false true c e z = omega arith
+          positive false false true e z = omega arith
+          positive false false false e z = omega arith
 
-        pub goals-refused : (words bytes : ℕ) → n ≢ 0 → Judged input words bytes (Refused n)
-        goals-refused words bytes h = refused input words bytes n (j .number words bytes ∙ given _ _ n (sym job-same) h) h
-
-        -- 14 and 15
-        module _ (none : n ≡ 0) (words bytes r : ℕ)
-            (room : r ≡ roomNumber (ltb words (16 * map .places + 2 * map .arcs)) (ltb bytes (10 + 2 * map .places))) where
-          room-same : refusal (frame input) words bytes ≡ r
-          unfolding shortWork shortSheet workWords
-          room-same =
-              j .number words bytes ∙ not-given _ _ (sym job-same ∙ none) ∙ sym (rw (j .places, j .arcs) at room)
-
-          pub room-refused : r ≢ 0 → Judged input words bytes (Refused r)
-          room-refused h = refused input words bytes r room-same h
-
-          pub accepted : r ≡ 0 → (job : Job) → job .map ≡ map → job .start ≡ u16 input (at + 0) → job .allowance ≡ u32 input (at + 2)
-              → job .goals ≡ k → job .«goals_at» ≡ at + 8 → Judged input words bytes (Accepted job)
-          accepted fits job is-map is-stated is-allowance is-count is-at =
-              let states : States input job =
-              record {
-                places = ap (λ (m : Map). m .places) is-map ∙ j .places;
-                arcs = ap (λ (m : Map). m .arcs) is-map ∙ j .arcs;
-                start = is-stated ∙ start-at;
-                allowance = is-allowance ∙ allowance-at;
-                goals-end = omega (arith, j .ends, count);
-                goals = rw (is-count, is-at) goals-at;
-              } in
-              record {
-                number = sym (room-same ∙ fits);
-                some-number = λ n e. let z : _≡_ {A = ℕ} 0 1 = cc in absurd (omega arith);
-                states = λ i e. let same : job ≡ i = cc in rw same at states;
-              }
+      pub accepted : n ≡ noNumber → (job : Job) → job .site ≡ record { places = s .places; arcs = s .arcs; start = s .job .start; growth = 2 }
+          → job .allowance ≡ s .job .allowance → job .goals ≡ s .job .goals → job .«goals_at» ≡ s .job .«goals_at» → Judged input (Accepted job)
+      accepted none job is-site is-allowance is-count is-at =
+          let states : States input job =
+          record {
+            places = ap (λ (x : Site). x .places) is-site ∙ j .places;
+            arcs = ap (λ (x : Site). x .arcs) is-site ∙ j .arcs;
+            start = ap (λ (x : Site). x .start) is-site ∙ start-same;
+            growth = ap (λ (x : Site). x .growth) is-site ∙ sym (states-growth (frame input .records));
+            allowance = is-allowance ∙ allowance-same;
+            goals-end = rw (is-count, is-at) (j .goals-end);
+            goals = rw (is-count, is-at) goals-same;
+          } in
+          record {
+            number = sym (refusal-same ∙ rw (eq-eqb n noNumber none));
+            some-number = λ k e. let z : _≡_ {A = ℕ} 0 1 = cc in absurd (omega arith);
+            states = λ i e. let same : job ≡ i = cc in rw same at states;
+          }

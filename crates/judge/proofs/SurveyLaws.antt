@@ -1,166 +1,321 @@
--- What pass 1 notes of all records is what the model says of them. Assumes nothing.
-use mathlib.Core.Path.{_≡_, refl, ap, sym, _∙_}
-use mathlib.Core.Bool.{Bool, true, false, cond, _||_, true≢false}
-use mathlib.Core.List.{List, [], _∷_, foldl}
-use Prim.Native.Nat.{ℕ, _+_, _-_, _≤_}
+-- The survey of records with one record more. Assumes nothing.
+use mathlib.Core.Path.{_≡_, refl, ap, ap₂, sym, _∙_}
+use mathlib.Core.Bool.{Bool, true, false, cond, not, _||_, or-false, false≢true, true≢false}
+use mathlib.Core.List.{List, [], _∷_, _++_, map, map-append, append-nil}
+use mathlib.Core.Option.{Option, none, some}
+use Prim.Native.Nat.{ℕ, _+_, _≤_, min}
 use native.Mathlib.Omega.{arith}
 use lib.Dec.{ltb, eqb}
-use lib.ListN.{length, drop, length-drop}
-use lib.Seq.{take-all}
-use borrow.Author.Tests.{ne-eqb}
-use Rattle.map.specs.declared.record.Read.the-variants.{Whole, Broken, End}
+use lib.ListN.{length, getD, length-append, length-map}
+use borrow.Author.Tests.{ltb-false, eqb-true, ne-eqb}
 use Rattle.judge.specs.declared.survey.Survey.{Survey}
+use Rattle.judge.specs.Numbers.{noNumber, numberOr}
+use Rattle.judge.specs.Marks.{firstMark}
+use Rattle.judge.specs.Survey.{given, fewPlaces, passed, opened, withHead, withLane, withJob, noted, againIn, marksBy, Noted}
+use Rattle.judge.specs.Survey.{saidOf, said, opening, sizeOr, stray, jobOr, placed, itemRows, Notes}
+use Rattle.model.proofs.Tests.{any-append, filterMap-append}
+use Rattle.judge.proofs.NumberLaws.{joined-least}
+use Rattle.judge.proofs.MarkLaws.{placesIn, marked-length, marked-member, marked-after}
+use Rattle.judge.proofs.ItemLaws.{ends-snoc, last-snoc, isOther, joined, Again, own-given, given-first}
 use Rattle.map.specs.declared.record as declared
-use Rattle.map.specs.Records.{readAt, recordIn}
-use Rattle.judge.specs.Survey.{Noted, oneIf, note, nothing, notedBy, Next, Added, Walked, lastBody, Surveyed}
-use Rattle.judge.proofs.Flags.{some-sets, counted}
-use Rattle.map.proofs.Records.{frame-end, frame-broken, frame-whole}
-use Rattle.model.specs.Framing.{Record, Framed, stop, push, frame}
-use Rattle.model.specs.Input.{headKind, arcKind, jobKind}
-use Rattle.model.specs.Refusals.{unknownKind, misfits, wrongLength, beginsWith, endsWith}
+use Rattle.map.specs.declared.record.Item.{Item}
+use Rattle.map.specs.declared.record.Item.the-variants.{Head, Lane, Estimate, Job, Misfit, Other}
+use Rattle.map.specs.Records.{recordIn}
+use Rattle.map.specs.Items.{isMisfit, jobOf, meant, Says}
+use Rattle.model.specs.Framing.{Record}
+use Rattle.model.specs.Items as model
+use Rattle.model.specs.Limits.{maxPlaces}
+use Rattle.model.specs.Lists.{any, isGiven, consIf, filterMap, repeats}
+use Rattle.model.specs.Refusals.{Row, unknownKind, wrongLength, outsideMap, freeArc, largeEstimate, twoEstimates, mapRows}
+use Rattle.model.specs.Stated.{statedBy}
 
--- the first record is looked at where none was before
-first-kept : (p : Noted) (rs : List Record) → eqb (p .records) 0 ≡ false → foldl note p rs .headFirst ≡ p .headFirst
-unfolding note
-first-kept p [] e = refl
-first-kept p (r ∷ rs) e = first-kept (note p r) rs (ne-eqb (p .records + 1) 0 λ z. omega arith) ∙ simp e
+-- ---- What a record says
 
-first-noted : (rs : List Record) → foldl note nothing rs .headFirst ≡ beginsWith headKind rs
-unfolding note beginsWith
-first-noted [] = refl
-first-noted (r ∷ rs) = first-kept (note nothing r) rs refl
+nothing-meant : (input : List ℕ) (i : Item) → isMisfit i ≡ true → meant input i ≡ model.other
+unfolding isMisfit meant
+nothing-meant input (Head z) e = absurd (false≢true e)
+nothing-meant input (Lane l) e = absurd (false≢true e)
+nothing-meant input (Estimate e) f = absurd (false≢true f)
+nothing-meant input (Job j) e = absurd (false≢true e)
+nothing-meant input Misfit e = refl
+nothing-meant input Other e = absurd (false≢true e)
 
-last-noted : (p : Noted) (r : Record) (rs : List Record)
-    → (foldl note p (r ∷ rs) .jobLast ≡ endsWith jobKind (r ∷ rs)) × (foldl note p (r ∷ rs) .last ≡ lastBody (r ∷ rs))
-unfolding note endsWith lastBody
-last-noted p r [] = (refl, refl)
-last-noted p r (s ∷ rs) = last-noted (note p r) s rs
+-- a body has a wrong length only where its kind has one
+misfit-known : (r : Record) → model.misfits r ≡ true → isGiven (model.bodyLength (model.itemOf r)) ≡ true
+unfolding model.misfits model.otherThan isGiven
+misfit-known r e = go (model.bodyLength (model.itemOf r)) e
+  where
+    go : (o : Option ℕ) → model.otherThan o (length (r .body)) ≡ true → isGiven o ≡ true
+    go none e = absurd (false≢true e)
+    go (some n) e = refl
 
-job-last-noted : (rs : List Record) → foldl note nothing rs .jobLast ≡ endsWith jobKind rs
-unfolding endsWith
-job-last-noted [] = refl
-job-last-noted (r ∷ rs) = last-noted nothing r rs .0
+module _ (input : List ℕ) (r : declared.Record.Record) (i : Item) (says : Says input r i) where
+  said-is : saidOf (recordIn input r) ≡ meant input i
+  unfolding saidOf
+  said-is = go (isMisfit i) refl
+    where
+      go : (t : Bool) → isMisfit i ≡ t → cond (model.misfits (recordIn input r)) model.other (model.itemOf (recordIn input r)) ≡ meant input i
+      go true e = rw (says .misfit, e) (sym (nothing-meant input i e))
+      go false e = rw (says .misfit, e) (says .item e)
 
-last-body-noted : (rs : List Record) → foldl note nothing rs .last ≡ lastBody rs
-unfolding lastBody
-last-body-noted [] = refl
-last-body-noted (r ∷ rs) = last-noted nothing r rs .1
+  unknown-is : not (isGiven (model.bodyLength (model.itemOf (recordIn input r)))) ≡ isOther i
+  unfolding isMisfit isOther meant model.bodyLength isGiven
+  unknown-is = go i (says .misfit) (says .item)
+    where
+      whole : Record
+      whole = recordIn input r
 
-one-at-most : (t : Bool) → oneIf t ≤ 1
-one-at-most true = omega arith
-one-at-most false = omega arith
+      go : (i : Item) → model.misfits whole ≡ isMisfit i → (isMisfit i ≡ false → model.itemOf whole ≡ meant input i)
+          → not (isGiven (model.bodyLength (model.itemOf whole))) ≡ isOther i
+      go (Head z) e f = rw (f refl)
+      go (Lane l) e f = rw (f refl)
+      go (Estimate x) e f = rw (f refl)
+      go (Job j) e f = rw (f refl)
+      go Misfit e f = rw (misfit-known whole e)
+      go Other e f = rw (f refl)
 
--- a survey with one record more
-pub added : (input : List ℕ) (s : Survey) (r : declared.Record.Record) → Next input s r → (u m h : Bool) (heads arcs jobs : ℕ)
-    → u ≡ (ltb (r .kind) headKind || ltb jobKind (r .kind)) → m ≡ misfits (recordIn input r)
-    → h ≡ cond (eqb (s .records) 0) (eqb (r .kind) headKind) (s .«head_first») → heads ≡ s .heads + oneIf (eqb (r .kind) headKind)
-    → arcs ≡ s .arcs + oneIf (eqb (r .kind) arcKind) → jobs ≡ s .jobs + oneIf (eqb (r .kind) jobKind)
-    → Added input s r
-    (record {
-      broken = s .broken;
-      unknown = s .unknown || u;
-      misfit = s .misfit || m;
-      «head_first» = h;
-      «job_last» = eqb (r .kind) jobKind;
-      records = s .records + 1;
-      heads = heads;
-      arcs = arcs;
-      jobs = jobs;
-      «last_at» = r .start;
-    })
-unfolding notedBy note
-added input s r n u m h heads arcs jobs eu em eh e₁ e₂ e₃ =
-    let one : (kind : ℕ) → oneIf (eqb (r .kind) kind) ≤ 1 = λ kind. one-at-most (eqb (r .kind) kind) in
-    record {
-      noted = rw (eu, em, eh, e₁, e₂, e₃);
-      counts = record {
-        records = omega (arith, n .counts, n .four, n .forward);
-        heads = omega (arith, n .counts, one headKind);
-        arcs = omega (arith, n .counts, one arcKind);
-        jobs = omega (arith, n .counts, one jobKind);
-      };
-      broken = refl;
-    }
+-- ---- What is noted of it
 
--- a survey that ends where the input does, or where it is broken
-surveyed : (input : List ℕ) (at : ℕ) (s : Survey) → s .broken ≡ frame input .broken → (s .broken ≡ false → at ≡ length input)
-    → notedBy input at s ≡ foldl note nothing (frame input .records) → Surveyed input s
-unfolding notedBy note unknownKind wrongLength
-surveyed input at s broken whole noted =
-    let rs = frame input .records in
-    record {
-      broken = broken;
-      unknown = ap (λ (p : Noted). p .unknown) noted ∙ some-sets note (λ p. p .unknown) _ (λ p r. refl) nothing rs;
-      misfit = ap (λ (p : Noted). p .misfit) noted ∙ some-sets note (λ p. p .misfit) misfits (λ p r. refl) nothing rs;
-      head-first = ap (λ (p : Noted). p .headFirst) noted ∙ first-noted rs;
-      job-last = ap (λ (p : Noted). p .jobLast) noted ∙ job-last-noted rs;
-      heads = ap (λ (p : Noted). p .heads) noted ∙ counted headKind note (λ p. p .heads) (λ p r. refl) nothing rs ∙ omega arith;
-      arcs = ap (λ (p : Noted). p .arcs) noted ∙ counted arcKind note (λ p. p .arcs) (λ p r. refl) nothing rs ∙ omega arith;
-      jobs = ap (λ (p : Noted). p .jobs) noted ∙ counted jobKind note (λ p. p .jobs) (λ p r. refl) nothing rs ∙ omega arith;
-      last = λ clear.
-          let e = whole clear in
-          let all : length (drop (s .«last_at») input) ≤ at - s .«last_at» = rw length-drop (omega arith) in
-          sym (take-all _ _ all) ∙ ap (λ (p : Noted). p .last) noted ∙ last-body-noted rs;
-    }
+pub either : {A : Type 0} (f : Survey → A) (t : Bool) (a b : Survey) (x : A) → f a ≡ x → f b ≡ x → f (cond t a b) ≡ x
+either f true a b x e g = e
+either f false a b x e g = g
 
-abbrev empty : Survey
-empty =
-    record {
-      broken = false;
-      unknown = false;
-      misfit = false;
-      «head_first» = false;
-      «job_last» = false;
-      records = 0;
-      heads = 0;
-      arcs = 0;
-      jobs = 0;
-      «last_at» = 0;
-    }
+module _ (input : List ℕ) (again : Bool) (s : Survey) where
+  noted-number : (i : Item) → noted again s i .number ≡ min (s .number) (given (eqb (s .records) 0) (s .places) again i)
+  unfolding noted given withHead withLane withJob
+  noted-number (Head z) = go (eqb (s .records) 0)
+    where
+      go : (t : Bool) → cond t (opened (passed s noNumber) z) (passed s 4) .number ≡ min (s .number) (cond t noNumber 4)
+      go true = refl
+      go false = refl
+  noted-number (Lane l) = refl
+  noted-number (Estimate e) = refl
+  noted-number (Job j) = refl
+  noted-number Misfit = refl
+  noted-number Other = refl
 
-pub walk-start : (input : List ℕ) → Walked input 0 empty
-unfolding notedBy
-walk-start input =
-    record {
-      inside = omega arith;
-      clear = refl;
-      broken = refl;
-      noted = refl;
-      counts = record { records = omega arith; heads = omega arith; arcs = omega arith; jobs = omega arith };
-    }
+  noted-records : (i : Item) → noted again s i .records ≡ s .records + 1
+  unfolding noted withHead withLane withJob
+  noted-records (Head z) = either (λ t. t .records) (eqb (s .records) 0) _ _ _ refl refl
+  noted-records (Lane l) = refl
+  noted-records (Estimate e) = refl
+  noted-records (Job j) = refl
+  noted-records Misfit = refl
+  noted-records Other = refl
 
-module _ (input : List ℕ) (at : ℕ) (s : Survey) (w : Walked input at s) where
-  pub walk-next : (r : declared.Record.Record) → readAt input at ≡ Whole r → Next input s r
-  walk-next r e =
-      let is = frame-whole input at (w .inside) r e in
-      let start = is .begins in
-      let back : r .start - 4 ≡ at = omega arith in
-      record { counts = rw back (w .counts); four = omega arith; forward = is .forward; ends = is .ends }
+  noted-lanes : (i : Item) → noted again s i .lanes ≡ s .lanes + length (filterMap model.laneIn (meant input i ∷ []))
+  unfolding noted withHead withLane withJob meant filterMap consIf model.laneIn
+  noted-lanes (Head z) = either (λ t. t .lanes) (eqb (s .records) 0) _ _ _ (omega arith) (omega arith)
+  noted-lanes (Lane l) = refl
+  noted-lanes (Estimate e) = omega arith
+  noted-lanes (Job j) = omega arith
+  noted-lanes Misfit = omega arith
+  noted-lanes Other = omega arith
 
-  pub walk-again : (r : declared.Record.Record) (t : Survey) → readAt input at ≡ Whole r → Added input s r t → Walked input (r .end) t
-  unfolding push note notedBy
-  walk-again r t e a =
-      let is = frame-whole input at (w .inside) r e in
-      record {
-        inside = is .ends;
-        clear = a .broken ∙ w .clear;
-        broken = sym (ap (λ (f : Framed). f .broken) (is .framed)) ∙ w .broken;
-        noted = ap (λ (p : Noted). foldl note p (frame (drop (r .end) input) .records)) (a .noted)
-            ∙ sym (ap (λ (f : Framed). foldl note (notedBy input at s) (f .records)) (is .framed))
-            ∙ w .noted;
-        counts = a .counts;
-      }
+  noted-jobs : (i : Item) → noted again s i .jobs ≡ s .jobs + length (filterMap model.jobIn (meant input i ∷ []))
+  unfolding noted withHead withLane withJob meant filterMap consIf model.jobIn
+  noted-jobs (Head z) = either (λ t. t .jobs) (eqb (s .records) 0) _ _ _ (omega arith) (omega arith)
+  noted-jobs (Lane l) = omega arith
+  noted-jobs (Estimate e) = omega arith
+  noted-jobs (Job j) = refl
+  noted-jobs Misfit = omega arith
+  noted-jobs Other = omega arith
 
-  pub walk-broken : (t : Survey) → t .broken ≡ true → notedBy input at t ≡ notedBy input at s → readAt input at ≡ Broken → Surveyed input t
-  unfolding stop
-  walk-broken t set same e =
-      let is = frame-broken input at (w .inside) e in
-      surveyed input at t (set ∙ sym (ap (λ (f : Framed). f .broken) is) ∙ w .broken) (λ clear. absurd (true≢false (sym set ∙ clear)))
-      (same ∙ sym (ap (λ (f : Framed). foldl note (notedBy input at s) (f .records)) is) ∙ w .noted)
+  noted-last : (i : Item) → noted again s i .«job_last» ≡ isGiven (model.jobIn (meant input i))
+  unfolding noted withHead withLane withJob meant model.jobIn isGiven
+  noted-last (Head z) = either (λ t. t .«job_last») (eqb (s .records) 0) _ _ _ refl refl
+  noted-last (Lane l) = refl
+  noted-last (Estimate e) = refl
+  noted-last (Job j) = refl
+  noted-last Misfit = refl
+  noted-last Other = refl
 
-  pub walk-end : readAt input at ≡ End → Surveyed input s
-  unfolding stop
-  walk-end e =
-      let is = frame-end input at (w .inside) e in
-      surveyed input at s (w .clear ∙ sym (ap (λ (f : Framed). f .broken) (is .1)) ∙ w .broken) (λ clear. is .0)
-      (sym (ap (λ (f : Framed). foldl note (notedBy input at s) (f .records)) (is .1)) ∙ w .noted)
+  noted-job : (i : Item) → jobOf input (noted again s i .job) ≡ jobOr (jobOf input (s .job)) (model.jobIn (meant input i))
+  unfolding noted withHead withLane withJob meant model.jobIn
+  noted-job (Head z) = either (λ t. jobOf input (t .job)) (eqb (s .records) 0) _ _ _ refl refl
+  noted-job (Lane l) = refl
+  noted-job (Estimate e) = refl
+  noted-job (Job j) = refl
+  noted-job Misfit = refl
+  noted-job Other = refl
+
+  -- the first record opens the map, and no later one does
+  noted-opens : s .records ≡ 0 → s .places ≡ 0 → s .arcs ≡ 0 → (i : Item)
+      → (noted again s i .places ≡ fewPlaces (sizeOr (model.sizeIn (meant input i)) .places))
+      × (noted again s i .arcs ≡ sizeOr (model.sizeIn (meant input i)) .arcs)
+  unfolding noted withHead withLane withJob meant model.sizeIn
+  noted-opens first p a (Head z) = rw first (refl, refl)
+  noted-opens first p a (Lane l) = (p, a)
+  noted-opens first p a (Estimate e) = (p, a)
+  noted-opens first p a (Job j) = (p, a)
+  noted-opens first p a Misfit = (p, a)
+  noted-opens first p a Other = (p, a)
+
+  noted-keeps : eqb (s .records) 0 ≡ false → (i : Item) → (noted again s i .places ≡ s .places) × (noted again s i .arcs ≡ s .arcs)
+  unfolding noted withHead withLane withJob
+  noted-keeps later (Head z) = rw later (refl, refl)
+  noted-keeps later (Lane l) = (refl, refl)
+  noted-keeps later (Estimate e) = (refl, refl)
+  noted-keeps later (Job j) = (refl, refl)
+  noted-keeps later Misfit = (refl, refl)
+  noted-keeps later Other = (refl, refl)
+
+marks-length : (n : ℕ) (m : List ℕ) (i : Item) → length (marksBy n m i) ≡ length m
+unfolding marksBy
+marks-length n m (Head z) = refl
+marks-length n m (Lane l) = refl
+marks-length n m (Estimate e) = marked-length n m (e .place) (e .value)
+marks-length n m (Job j) = refl
+marks-length n m Misfit = refl
+marks-length n m Other = refl
+
+-- ---- The survey of one record more
+
+pub few-places : (n : ℕ) → fewPlaces n ≤ maxPlaces
+few-places n = go (ltb maxPlaces n) refl
+  where
+    go : (t : Bool) → ltb maxPlaces n ≡ t → cond t 0 n ≤ maxPlaces
+    go true e = omega arith
+    go false e = ltb-false maxPlaces n e
+
+pub nothing-yet : (t : Bool) → _≡_ {A = ℕ} (cond t 0 0) 0
+nothing-yet true = refl
+nothing-yet false = refl
+
+module _ (input : List ℕ) (rs : List Record) (m : List ℕ) (s : Survey) (notes : Notes input rs m s) where
+  abbrev is : List model.Item
+  is = said rs
+
+  abbrev es : List model.Estimate
+  es = filterMap model.estimateIn is
+
+  pub count : length is ≡ s .records
+  unfolding said
+  count = length-map rs saidOf ∙ sym (notes .records)
+
+  none-yet : eqb (s .records) 0 ≡ true → rs ≡ []
+  none-yet e = go rs (sym (notes .records) ∙ eqb-true (s .records) 0 e)
+    where
+      go : (xs : List Record) → length xs ≡ 0 → xs ≡ []
+      go [] e = refl
+      go (x ∷ xs) e = absurd (omega arith)
+
+  marks-room : s .places ≤ length m
+  marks-room = omega (arith, notes .places, few-places (opening is .places), notes .room)
+
+  -- the marks with one item more
+  noted-marks : (again : Bool) (i : Item) (v : ℕ)
+      → getD (marksBy (s .places) m i) v 0
+      ≡ cond (ltb v (noted again s i .places)) (firstMark (es ++ filterMap model.estimateIn (meant input i ∷ [])) v) 0
+  unfolding marksBy noted withHead withLane withJob meant filterMap consIf model.estimateIn said firstMark
+  noted-marks again (Head z) v = rw (append-nil es) (go (eqb (s .records) 0) refl)
+    where
+      go : (t : Bool) → eqb (s .records) 0 ≡ t
+          → getD m v 0 ≡ cond (ltb v (cond t (opened (passed s noNumber) z) (passed s 4) .places)) (firstMark es v) 0
+      go true e =
+          let none : es ≡ [] = ap (λ (rs : List Record). filterMap model.estimateIn (said rs)) (none-yet e) in
+          let clear : getD m v 0 ≡ 0 = notes .mark v ∙ rw none (nothing-yet (ltb v (s .places))) in
+          rw (clear, none) (sym (nothing-yet (ltb v (fewPlaces (z .places)))))
+      go false e = notes .mark v
+  noted-marks again (Lane l) v = rw (append-nil es) (notes .mark v)
+  noted-marks again (Estimate e) v = marked-after (s .places) es m (notes .mark) marks-room (record { place = e .place; value = e .value }) v
+  noted-marks again (Job j) v = rw (append-nil es) (notes .mark v)
+  noted-marks again Misfit v = rw (append-nil es) (notes .mark v)
+  noted-marks again Other v = rw (append-nil es) (notes .mark v)
+
+  again-right : (first : Bool) (i : Item) → Again first (s .places) (placesIn es) (againIn (s .places) m i) i
+  unfolding againIn
+  again-right first i e f later inside = rw f (marked-member (s .places) es m (notes .mark) (e .place) inside)
+
+  -- the number of one item more
+  module _ (i : Item) where
+    abbrev again : Bool
+    again = againIn (s .places) m i
+
+    abbrev rowsBefore : ℕ → List Row
+    rowsBefore n = itemRows (unknownKind (model.items rs)) (wrongLength rs) n is
+
+    abbrev rowsAfter : ℕ → List Row
+    rowsAfter n = itemRows (unknownKind (model.items rs) || isOther i) (wrongLength rs || isMisfit i) n (is ++ (meant input i ∷ []))
+
+    least : (t : Bool) → eqb (s .records) 0 ≡ t → (n : ℕ) → Again t n (placesIn es) again i
+        → min (numberOr noNumber (rowsBefore n)) (given t n again i) ≡ numberOr noNumber (rowsAfter n)
+    least t e n right =
+        let first : eqb (length is) 0 ≡ t = rw count e in
+        rw (← own-given input t n (placesIn es) again i right)
+        (rw first at (joined-least noNumber (joined (unknownKind (model.items rs)) (wrongLength rs) (isOther i) (isMisfit i) n is (meant input i))))
+
+    -- before the first record the map's places do not count
+    no-rows : rs ≡ [] → (n : ℕ) → numberOr noNumber (rowsBefore n) ≡ noNumber
+    unfolding itemRows numberOr said model.items unknownKind wrongLength stray mapRows placed statedBy outsideMap freeArc largeEstimate twoEstimates
+        filterMap any repeats
+    no-rows e n = rw e
+
+    noted-rows : noted again s i .number ≡ numberOr noNumber (rowsAfter (noted again s i .places))
+    noted-rows = rw (noted-number input again s i) (go (eqb (s .records) 0) refl)
+      where
+        go : (t : Bool) → eqb (s .records) 0 ≡ t
+            → min (s .number) (given t (s .places) again i) ≡ numberOr noNumber (rowsAfter (noted again s i .places))
+        go true e =
+            let n = noted again s i .places in
+            let none = none-yet e in
+            let number : s .number ≡ numberOr noNumber (rowsBefore n) = notes .number ∙ no-rows none (s .places) ∙ sym (no-rows none n) in
+            ap₂ min number (given-first (s .places) n again again i) ∙ least true e n (λ x f later inside. absurd (true≢false later))
+        go false e =
+            ap (λ (x : ℕ). min x (given false (s .places) again i)) (notes .number)
+            ∙ least false e (s .places) (again-right false i)
+            ∙ ap (λ (n : ℕ). numberOr noNumber (rowsAfter n)) (sym (noted-keeps input again s e i .0))
+
+-- the survey of the records so far becomes that of one record more
+module _ (input : List ℕ) (rs : List Record) (m : List ℕ) (s : Survey) (notes : Notes input rs m s) (r : declared.Record.Record) (i : Item)
+    (says : Says input r i) where
+  abbrev more : List Record
+  more = rs ++ (recordIn input r ∷ [])
+
+  said-more : said more ≡ said rs ++ (meant input i ∷ [])
+  unfolding said
+  said-more = map-append saidOf rs (recordIn input r ∷ []) ∙ rw (said-is input r i says)
+
+  unknown-more : unknownKind (model.items more) ≡ (unknownKind (model.items rs) || isOther i)
+  unfolding unknownKind model.items any
+  unknown-more =
+      rw (map-append model.itemOf rs (recordIn input r ∷ []), any-append _ (map model.itemOf rs) (model.itemOf (recordIn input r) ∷ []))
+      (rw (unknown-is input r i says, or-false (isOther i)))
+
+  misfit-more : wrongLength more ≡ (wrongLength rs || isMisfit i)
+  unfolding wrongLength any
+  misfit-more = any-append model.misfits rs (recordIn input r ∷ []) ∙ rw (says .misfit, or-false (isMisfit i))
+
+  -- the first item states the size
+  size-more : (again : Bool)
+      → (noted again s i .places ≡ fewPlaces (opening (said more) .places)) × (noted again s i .arcs ≡ opening (said more) .arcs)
+  unfolding opening
+  size-more again = rw said-more (go (said rs) (count input rs m s notes) (notes .places) (notes .arcs))
+    where
+      Right : List model.Item → Type 0
+      Right is = (noted again s i .places ≡ fewPlaces (opening is .places)) × (noted again s i .arcs ≡ opening is .arcs)
+
+      go : (is : List model.Item) → length is ≡ s .records → s .places ≡ fewPlaces (opening is .places) → s .arcs ≡ opening is .arcs
+          → Right (is ++ (meant input i ∷ []))
+      go [] c p a = noted-opens input again s (sym c) p a i
+      go (x ∷ xs) c p a =
+          let kept = noted-keeps input again s (ne-eqb (s .records) 0 (λ z. omega arith)) i in
+          (kept .0 ∙ p, kept .1 ∙ a)
+
+  pub notes-again : (marks : List ℕ) (t : Survey) → Noted m s i marks t → Notes input more marks t
+  notes-again marks t step =
+      let again = againIn (s .places) m i in
+      let sizes = size-more again in
+      rw (step .survey)
+      (record {
+        number = rw (unknown-more, misfit-more, said-more) (noted-rows input rs m s notes i);
+        records = noted-records input again s i ∙ rw (notes .records, length-append);
+        places = sizes .0;
+        arcs = sizes .1;
+        lanes = noted-lanes input again s i ∙ rw (notes .lanes, said-more, filterMap-append, length-append);
+        jobs = noted-jobs input again s i ∙ rw (notes .jobs, said-more, filterMap-append, length-append);
+        job-last = noted-last input again s i ∙ rw (said-more, ends-snoc);
+        job = noted-job input again s i ∙ rw (notes .job, said-more, last-snoc);
+        room = ap length (step .mark) ∙ marks-length (s .places) m i ∙ notes .room;
+        mark = λ v. rw (step .mark) (noted-marks input rs m s notes again i v ∙ rw (said-more, filterMap-append));
+      })

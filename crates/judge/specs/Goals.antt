@@ -27,7 +27,7 @@ abbrev pub nothing : Goals
 nothing = record { outside = false; falls = false; estimated = false; next = 0 }
 
 -- what is noted before byte `at`, with the `left` goals from there on, is what is noted of all goals
-pub record Walked (input : List ℕ) (goals : List ℕ) (n : ℕ) (marks : List ℕ) (at left : ℕ) (s : Goals) : Type 0 where
+pub record GoalsWalked (input : List ℕ) (goals : List ℕ) (n : ℕ) (marks : List ℕ) (at left : ℕ) (s : Goals) : Type 0 where
   pub inside : at + 2 * left ≤ length input
   pub noted : foldl (note n marks) s (u16s left input at) ≡ foldl (note n marks) nothing goals
 

@@ -7,14 +7,14 @@ use Rattle.judge.specs.declared.Judgement.{Judgement}
 use Rattle.judge.specs.declared.Judgement.the-variants.{Refused, Accepted}
 use Rattle.map.specs.Jobs.{States}
 use Rattle.model.specs.Framing.{frame}
-use Rattle.model.specs.Refusals.{refusal}
+use Rattle.model.specs.Refusals.{inputRefusal}
 
 -- 0 is acceptance
 abbrev pub numberOf : Judgement → ℕ
 numberOf (Refused n) = n
 numberOf (Accepted j) = 0
 
-pub record Judged (input : List ℕ) (words bytes : ℕ) (r : Judgement) : Type 0 where
-  pub number : numberOf r ≡ refusal (frame input) words bytes
+pub record Judged (input : List ℕ) (r : Judgement) : Type 0 where
+  pub number : numberOf r ≡ inputRefusal (frame input)
   pub some-number : (n : ℕ) → r ≡ Refused n → 1 ≤ n
   pub states : (j : Job) → r ≡ Accepted j → States input j

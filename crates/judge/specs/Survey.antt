@@ -1,114 +1,249 @@
--- Pass 1: what is noted of the records one by one, and what it then says of all of them.
+-- The pass over the records: what each is given by itself, what is noted of it, and what that then says of all records.
 use mathlib.Core.Path.{_≡_}
-use mathlib.Core.Bool.{Bool, false, cond, _||_}
-use mathlib.Core.List.{List, [], _∷_, foldl}
-use Prim.Native.Nat.{ℕ, _+_, _-_, _≤_}
-use lib.Dec.{ltb, eqb}
-use lib.ListN.{length, take, drop}
+use mathlib.Core.Bool.{Bool, true, false, cond, not, _||_}
+use mathlib.Core.List.{List, [], _∷_, _++_, map}
+use mathlib.Core.Option.{Option, none, some}
+use Prim.Native.Nat.{ℕ, _+_, _*_, _^_, _≤_, _<_, min}
+use lib.Dec.{ltb, leb, eqb}
+use lib.ListN.{length, getD, drop}
 use Rattle.judge.specs.declared.survey.Survey.{Survey}
+use Rattle.judge.specs.Numbers.{noNumber, numberOr}
+use Rattle.judge.specs.Marks.{firstMark, marked, markedBy}
 use Rattle.map.specs.declared.record as declared
-use Rattle.map.specs.Records.{recordIn}
+use Rattle.map.specs.declared.record.Item.{Item}
+use Rattle.map.specs.declared.record.Item.the-variants.{Head, Lane, Estimate, Job, Misfit, Other}
+use Rattle.map.specs.Items.{jobOf}
 use Rattle.model.specs.Framing.{Record, frame}
-use Rattle.model.specs.Input.{headKind, arcKind, jobKind}
-use Rattle.model.specs.Refusals.{countOf, unknownKind, misfits, wrongLength, beginsWith, endsWith}
+use Rattle.model.specs.Items as model
+use Rattle.model.specs.Limits.{maxPlaces, maxEstimate}
+use Rattle.model.specs.Lists.{any, isGiven, filterMap}
+use Rattle.model.specs.Refusals.{Row, row, unknownKind, wrongLength, endsWithJob, formRows, mapRows, firstThatHolds}
+use Rattle.model.specs.Stated.{Stated, noSize, noJob, statedBy, stated, lookup}
 
-pub record Noted : Type 0 where
-  pub unknown : Bool
-  pub misfit : Bool
-  pub headFirst : Bool
-  pub jobLast : Bool
-  pub records : ℕ
-  pub heads : ℕ
-  pub arcs : ℕ
-  pub jobs : ℕ
-  pub last : List ℕ
+-- ---- What a record is given by itself
 
-abbrev pub oneIf : Bool → ℕ
-oneIf t = cond t 1 0
+-- what a record is given that is no head and may stand anywhere but first
+abbrev pub headless : Bool → ℕ
+headless first = cond first 4 noNumber
 
-unfoldable pub note : Noted → Record → Noted
-note p r =
+abbrev pub laneNumber : Bool → ℕ → declared.Lane.Lane → ℕ
+laneNumber first n l = cond first 4 (cond (leb n (l .from) || leb n (l .to)) 6 (cond (eqb (l .cost) 0) 7 noNumber))
+
+-- again: its place has an estimate already
+abbrev pub estimateNumber : Bool → ℕ → Bool → declared.Estimate.Estimate → ℕ
+estimateNumber first n again e =
+    cond first 4 (cond (leb n (e .place)) 6 (cond (ltb maxEstimate (e .value)) 8 (cond again 9 noNumber)))
+
+unfoldable pub given : Bool → ℕ → Bool → Item → ℕ
+given first n again (Head z) = cond first noNumber 4
+given first n again (Lane l) = laneNumber first n l
+given first n again (Estimate e) = estimateNumber first n again e
+given first n again (Job j) = headless first
+given first n again Misfit = 3
+given first n again Other = 2
+
+-- ---- What is noted of a record
+
+-- no places where they are more than a map can have
+abbrev pub fewPlaces : ℕ → ℕ
+fewPlaces n = cond (ltb maxPlaces n) 0 n
+
+-- with one record more, which is given this number
+abbrev pub passed : Survey → ℕ → Survey
+passed s number =
     record {
-      unknown = p .unknown || (ltb (r .kind) headKind || ltb jobKind (r .kind));
-      misfit = p .misfit || misfits r;
-      headFirst = cond (eqb (p .records) 0) (eqb (r .kind) headKind) (p .headFirst);
-      jobLast = eqb (r .kind) jobKind;
-      records = p .records + 1;
-      heads = p .heads + oneIf (eqb (r .kind) headKind);
-      arcs = p .arcs + oneIf (eqb (r .kind) arcKind);
-      jobs = p .jobs + oneIf (eqb (r .kind) jobKind);
-      last = r .body;
-    }
-
-abbrev pub nothing : Noted
-nothing =
-    record {
-      unknown = false;
-      misfit = false;
-      headFirst = false;
-      jobLast = false;
-      records = 0;
-      heads = 0;
-      arcs = 0;
-      jobs = 0;
-      last = [];
-    }
-
--- what a survey that has come to byte `at` has noted
-unfoldable pub notedBy : List ℕ → ℕ → Survey → Noted
-notedBy input at s =
-    record {
-      unknown = s .unknown;
-      misfit = s .misfit;
-      headFirst = s .«head_first»;
-      jobLast = s .«job_last»;
-      records = s .records;
-      heads = s .heads;
+      number = min (s .number) number;
+      records = s .records + 1;
+      places = s .places;
       arcs = s .arcs;
+      lanes = s .lanes;
       jobs = s .jobs;
-      last = take (at - s .«last_at») (drop (s .«last_at») input);
+      «job_last» = false;
+      job = s .job;
     }
 
--- a record has four bytes or more, so that a count of them is at most the bytes passed
-pub record Counts (at : ℕ) (s : Survey) : Type 0 where
-  pub records : s .records ≤ at
-  pub heads : s .heads ≤ s .records
-  pub arcs : s .arcs ≤ s .records
+abbrev pub opened : Survey → declared.Size.Size → Survey
+opened s z =
+    record {
+      number = s .number;
+      records = s .records;
+      places = fewPlaces (z .places);
+      arcs = z .arcs;
+      lanes = s .lanes;
+      jobs = s .jobs;
+      «job_last» = s .«job_last»;
+      job = s .job;
+    }
+
+unfoldable pub withHead : Survey → declared.Size.Size → Survey
+withHead s z = cond (eqb (s .records) 0) (opened (passed s noNumber) z) (passed s 4)
+
+unfoldable pub withLane : Survey → declared.Lane.Lane → Survey
+withLane s l =
+    let t = passed s (laneNumber (eqb (s .records) 0) (s .places) l) in
+    record {
+      number = t .number;
+      records = t .records;
+      places = t .places;
+      arcs = t .arcs;
+      lanes = t .lanes + 1;
+      jobs = t .jobs;
+      «job_last» = t .«job_last»;
+      job = t .job;
+    }
+
+unfoldable pub withJob : Survey → declared.JobFields.JobFields → Survey
+withJob s j =
+    let t = passed s (headless (eqb (s .records) 0)) in
+    record {
+      number = t .number;
+      records = t .records;
+      places = t .places;
+      arcs = t .arcs;
+      lanes = t .lanes;
+      jobs = t .jobs + 1;
+      «job_last» = true;
+      job = j;
+    }
+
+unfoldable pub noted : Bool → Survey → Item → Survey
+noted again s (Head z) = withHead s z
+noted again s (Lane l) = withLane s l
+noted again s (Estimate e) = passed s (estimateNumber (eqb (s .records) 0) (s .places) again e)
+noted again s (Job j) = withJob s j
+noted again s Misfit = passed s 3
+noted again s Other = passed s 2
+
+-- its place has an estimate already, by the marks
+unfoldable pub againIn : ℕ → List ℕ → Item → Bool
+againIn n marks (Head z) = false
+againIn n marks (Lane l) = false
+againIn n marks (Estimate e) = marked n marks (e .place)
+againIn n marks (Job j) = false
+againIn n marks Misfit = false
+againIn n marks Other = false
+
+-- the marks with its own
+unfoldable pub marksBy : ℕ → List ℕ → Item → List ℕ
+marksBy n marks (Head z) = marks
+marksBy n marks (Lane l) = marks
+marksBy n marks (Estimate e) = markedBy n marks (e .place) (e .value)
+marksBy n marks (Job j) = marks
+marksBy n marks Misfit = marks
+marksBy n marks Other = marks
+
+pub record Noted (marks₀ : List ℕ) (s : Survey) (i : Item) (marks : List ℕ) (t : Survey) : Type 0 where
+  pub survey : t ≡ noted (againIn (s .places) marks₀ i) s i
+  pub mark : marks ≡ marksBy (s .places) marks₀ i
+
+-- the counts have room for one record more
+pub record Counted (s : Survey) : Type 0 where
+  pub records : s .records < 2 ^ 63
+  pub lanes : s .lanes ≤ s .records
   pub jobs : s .jobs ≤ s .records
+  pub places : s .places ≤ maxPlaces
 
--- the record r was found, and the survey s is of the records before it
-pub record Next (input : List ℕ) (s : Survey) (r : declared.Record.Record) : Type 0 where
-  pub counts : Counts (r .start - 4) s
-  pub four : 4 ≤ r .start
-  pub forward : r .start ≤ r .end
-  pub ends : r .end ≤ length input
+-- ---- What it says of all records
 
-pub record Added (input : List ℕ) (s : Survey) (r : declared.Record.Record) (t : Survey) : Type 0 where
-  pub noted : notedBy input (r .end) t ≡ note (notedBy input (r .start) s) (recordIn input r)
-  pub counts : Counts (r .end) t
-  pub broken : t .broken ≡ s .broken
+-- what a record says that fits; another says nothing
+unfoldable pub saidOf : Record → model.Item
+saidOf r = cond (model.misfits r) model.other (model.itemOf r)
 
--- a survey of the records before byte `at`: what it will have noted after the rest is what is noted of all
-pub record Walked (input : List ℕ) (at : ℕ) (s : Survey) : Type 0 where
+unfoldable pub said : List Record → List model.Item
+said rs = map saidOf rs
+
+abbrev pub sizeOr : Option model.Size → model.Size
+sizeOr none = noSize
+sizeOr (some z) = z
+
+-- what the first item states, if it is a head
+unfoldable pub opening : List model.Item → model.Size
+opening [] = noSize
+opening (i ∷ is) = sizeOr (model.sizeIn i)
+
+abbrev pub isHead : model.Item → Bool
+isHead i = isGiven (model.sizeIn i)
+
+-- a first item that is no head, or a head that is not first
+unfoldable pub stray : List model.Item → Bool
+stray [] = false
+stray (i ∷ is) = not (isHead i) || any isHead is
+
+abbrev pub jobOr : model.Job → Option model.Job → model.Job
+jobOr d none = d
+jobOr d (some j) = j
+
+-- the last job among the items, d where there is none
+unfoldable pub lastJob : model.Job → List model.Item → model.Job
+lastJob d [] = d
+lastJob d (i ∷ is) = lastJob (jobOr d (model.jobIn i)) is
+
+-- the same, with n places
+unfoldable pub placed : ℕ → Stated → Stated
+placed n s =
+    record {
+      size = record { places = n; arcs = s .size .arcs };
+      lanes = s .lanes;
+      estimates = s .estimates;
+      factors = s .factors;
+      growth = s .growth;
+      job = s .job;
+    }
+
+-- the conditions of 2 to 4 and 6 to 9, of items on a map of n places
+unfoldable pub itemRows : (unknown misfit : Bool) → ℕ → List model.Item → List Row
+itemRows unknown misfit n is = row 2 unknown ∷ row 3 misfit ∷ row 4 (stray is) ∷ mapRows (placed n (statedBy is))
+
+-- the survey of the records rs
+pub record Notes (input : List ℕ) (rs : List Record) (marks : List ℕ) (s : Survey) : Type 0 where
+  pub number : s .number ≡ numberOr noNumber (itemRows (unknownKind (model.items rs)) (wrongLength rs) (s .places) (said rs))
+  pub records : s .records ≡ length rs
+  pub places : s .places ≡ fewPlaces (opening (said rs) .places)
+  pub arcs : s .arcs ≡ opening (said rs) .arcs
+  pub lanes : s .lanes ≡ length (filterMap model.laneIn (said rs))
+  pub jobs : s .jobs ≡ length (filterMap model.jobIn (said rs))
+  pub job-last : s .«job_last» ≡ endsWithJob (said rs)
+  pub job : jobOf input (s .job) ≡ lastJob noJob (said rs)
+  pub room : length marks ≡ maxPlaces
+  pub mark : (v : ℕ) → getD marks v 0 ≡ cond (ltb v (s .places)) (firstMark (filterMap model.estimateIn (said rs)) v) 0
+
+-- the survey of the records before byte `at`
+pub record Walked (input : List ℕ) (at : ℕ) (marks : List ℕ) (s : Survey) : Type 0 where
   pub inside : at ≤ length input
-  pub clear : s .broken ≡ false
-  pub broken : frame (drop at input) .broken ≡ frame input .broken
-  pub noted : foldl note (notedBy input at s) (frame (drop at input) .records) ≡ foldl note nothing (frame input .records)
-  pub counts : Counts at s
+  pub passed : List Record
+  pub split : frame input .records ≡ passed ++ frame (drop at input) .records
+  pub broken : frame input .broken ≡ frame (drop at input) .broken
+  pub few : length passed ≤ at
+  pub notes : Notes input passed marks s
+  pub goals-end : s .«job_last» ≡ true → s .job .«goals_at» + 2 * s .job .goals ≡ at
 
-unfoldable pub lastBody : List Record → List ℕ
-lastBody [] = []
-lastBody (r ∷ []) = r .body
-lastBody (r ∷ s ∷ rs) = lastBody (s ∷ rs)
+-- with the number of an input that has no record
+unfoldable pub atEnd : Survey → Survey
+atEnd s =
+    record {
+      number = cond (eqb (s .records) 0) 4 (s .number);
+      records = s .records;
+      places = s .places;
+      arcs = s .arcs;
+      lanes = s .lanes;
+      jobs = s .jobs;
+      «job_last» = s .«job_last»;
+      job = s .job;
+    }
+
+-- what a survey states of an input of which none of 1 to 4 holds
+pub record Stating (input : List ℕ) (marks : List ℕ) (s : Survey) : Type 0 where
+  pub places : s .places ≡ fewPlaces (stated (frame input .records) .size .places)
+  pub arcs : s .arcs ≡ stated (frame input .records) .size .arcs
+  pub lanes : s .lanes ≡ length (stated (frame input .records) .lanes)
+  pub jobs : s .jobs ≡ length (filterMap model.jobIn (model.items (frame input .records)))
+  pub job-last : s .«job_last» ≡ endsWithJob (model.items (frame input .records))
+  pub job : s .jobs ≡ 1 → jobOf input (s .job) ≡ stated (frame input .records) .job
+  pub goals-end : s .«job_last» ≡ true → s .job .«goals_at» + 2 * s .job .goals ≡ length input
+  pub estimated : (v : ℕ) → v < s .places
+      → eqb (getD marks v 0) 2 ≡ not (eqb (lookup 0 (stated (frame input .records) .estimates) v) 0)
 
 -- the survey of a whole input
-pub record Surveyed (input : List ℕ) (s : Survey) : Type 0 where
-  pub broken : s .broken ≡ frame input .broken
-  pub unknown : s .unknown ≡ unknownKind (frame input .records)
-  pub misfit : s .misfit ≡ wrongLength (frame input .records)
-  pub head-first : s .«head_first» ≡ beginsWith headKind (frame input .records)
-  pub job-last : s .«job_last» ≡ endsWith jobKind (frame input .records)
-  pub heads : s .heads ≡ countOf headKind (frame input .records)
-  pub arcs : s .arcs ≡ countOf arcKind (frame input .records)
-  pub jobs : s .jobs ≡ countOf jobKind (frame input .records)
-  pub last : s .broken ≡ false → drop (s .«last_at») input ≡ lastBody (frame input .records)
+pub record Surveyed (input : List ℕ) (marks : List ℕ) (s : Survey) : Type 0 where
+  pub number : s .number ≡ numberOr noNumber (formRows (frame input) ++ mapRows (placed (s .places) (stated (frame input .records))))
+  pub states : firstThatHolds (formRows (frame input)) ≡ 0 → Stating input marks s

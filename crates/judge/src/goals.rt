@@ -1,5 +1,5 @@
 // The pass over a job's goals.
-use crate::fields;
+use crate::marks;
 use map::Map;
 ghost use mathlib.Core.Path.{_≡_};
 ghost use Prim.Native.Nat.{_+_, _*_, _≤_, _<_};
@@ -24,7 +24,7 @@ fn estimated(marks: &[u8; Map::PLACES], places: usize, goal: usize) -> bool
     if places <= goal {
         return false;
     }
-    marks[goal] == fields::ESTIMATE_ABOVE_0
+    marks[goal] == marks::ESTIMATE_ABOVE_0
 }
 
 fn with_goal(g: Goals, goal: usize, places: usize, marks: &[u8; Map::PLACES]) -> Goals

@@ -1,6 +1,7 @@
-// Judges an input: the lowest of document 01's numbers 1 to 15 whose condition holds, or what an accepted input states.
-mod fields;
+// Judges an input: the lowest of document 01's numbers 1 to 13 whose condition holds, or what an accepted input states.
 mod goals;
+mod marks;
+mod numbers;
 mod survey;
 mod verdict;
 

@@ -1,134 +1,197 @@
-// Pass 1 over the records: their kinds, their lengths and how many of each there are.
+// The pass over the records: what each is given by itself, and what they state.
+use crate::marks;
+use crate::numbers;
+use map::Map;
+use map::number;
 use map::record;
+use map::record::Estimate;
+use map::record::Item;
+use map::record::JobFields;
+use map::record::Lane;
 use map::record::Read;
-use map::record::Record;
+use map::record::Size;
 ghost use mathlib.Core.Path.{_≡_};
-ghost use mathlib.Core.Bool.{cond, not, _||_};
-ghost use Prim.Native.Nat.{_+_, _*_, _^_, _≤_, _<_};
-ghost use lib.Dec.{ltb, eqb};
-ghost use lib.ListN.{length};
-ghost use Rattle.map.specs.Records.{recordIn};
-ghost use Rattle.judge.specs.Survey.{oneIf, Next, Added, Surveyed};
-ghost use Rattle.model.specs.Bytes.{u16};
-ghost use Rattle.model.specs.Input.{headKind, jobKind};
-ghost use Rattle.model.specs.Refusals.{misfits};
+ghost use Rattle.judge.specs.Marks.{Clear};
+ghost use Rattle.judge.specs.Survey.{fewPlaces, laneNumber, estimateNumber, headless};
+ghost use Rattle.judge.specs.Survey.{passed, withHead, withLane, withJob, atEnd, Counted, Noted, Surveyed};
 
 pub struct Survey {
-    pub broken: bool,
-    pub unknown: bool,
-    pub misfit: bool,
-    pub head_first: bool,
-    pub job_last: bool,
+    // The least number that a record was given, NONE where none was.
+    pub number: u32,
     pub records: usize,
-    pub heads: usize,
+    // What the first record states, if it is a head; no places where they are more than a map can have.
+    pub places: usize,
     pub arcs: usize,
+    pub lanes: usize,
     pub jobs: usize,
-    // Where the body of the last record begins.
-    pub last_at: usize,
+    pub job_last: bool,
+    // The last job.
+    pub job: JobFields,
 }
 
-fn unknown(kind: u16) -> bool
-    ensures { λ r. ⌜ r ≡ (ltb kind headKind || ltb jobKind kind) ⌝ }
+fn few_places(places: usize) -> usize
+    ensures { λ r. ⌜ r ≡ fewPlaces places ⌝ }
 {
-    (kind < record::HEAD) | (record::JOB < kind)
+    if Map::PLACES < places {
+        return 0;
+    }
+    places
 }
 
-// A job's body of `len` bytes that begins at byte `at` isn't as long as its goals ask.
-fn job_misfits(input: &[u8], at: usize, len: usize) -> bool
-    requires { ⌜ at + len ≤ length (now input) ⌝ }
-    ensures { λ r. ⌜ r ≡ (ltb len 8 || not (eqb len (8 + 2 * u16 (now (input .entry)) (at + 6)))) ⌝ }
+fn lane_number(first: bool, places: usize, lane: Lane) -> u32
+    ensures { λ r. ⌜ r ≡ laneNumber first places lane ⌝ }
 {
-    if len < record::GOALS {
-        return true;
+    if first {
+        return number::WRONG_HEAD;
     }
-    len != record::GOALS + 2 * area::index(area::u16_at(input, at + record::GOAL_COUNT))
+    if (places <= lane.from) | (places <= lane.to) {
+        return number::OUTSIDE_MAP;
+    }
+    if lane.cost == 0 {
+        return number::FREE_ARC;
+    }
+    numbers::NONE
 }
 
-fn misfit(input: &[u8], r: Record) -> bool
-    requires { ⌜ (r .start ≤ r .end) × (r .end ≤ length (now input)) ⌝ }
-    ensures { λ m. ⌜ m ≡ misfits (recordIn (now (input .entry)) r) ⌝ }
+fn estimate_number(first: bool, places: usize, e: Estimate, again: bool) -> u32
+    ensures { λ r. ⌜ r ≡ estimateNumber first places again e ⌝ }
 {
-    let len = r.end - r.start;
-    if r.kind == record::HEAD {
-        return len != record::HEAD_BYTES;
+    if first {
+        return number::WRONG_HEAD;
     }
-    if r.kind == record::ARC {
-        return len != record::ARC_BYTES;
+    if places <= e.place {
+        return number::OUTSIDE_MAP;
     }
-    if r.kind == record::ESTIMATE {
-        return len != record::ESTIMATE_BYTES;
+    if Map::ESTIMATE < e.value {
+        return number::LARGE_ESTIMATE;
     }
-    if r.kind == record::JOB {
-        return job_misfits(input, r.start, len);
+    if again {
+        return number::TWO_ESTIMATES;
     }
-    false
+    numbers::NONE
 }
 
-fn head_first(s: Survey, kind: u16) -> bool
-    ensures { λ r. ⌜ r ≡ cond (eqb (s .records) 0) (eqb kind headKind) (s .«head_first») ⌝ }
+// What a record is given that is no head and may stand anywhere but first.
+fn headless(first: bool) -> u32
+    ensures { λ r. ⌜ r ≡ headless first ⌝ }
 {
-    if s.records == 0 {
-        return kind == record::HEAD;
+    if first {
+        return number::WRONG_HEAD;
     }
-    s.head_first
+    numbers::NONE
 }
 
-// One more than `n` where the kind is the one that is counted.
-fn count(n: usize, kind: u16, counted: u16) -> usize
-    requires { ⌜ n < 2 ^ 63 ⌝ }
-    ensures { λ r. ⌜ r ≡ n + oneIf (eqb kind counted) ⌝ }
+// The survey with one record more, which is given this number.
+fn after(s: Survey, number: u32) -> Survey
+    requires { ⌜ Counted s ⌝ }
+    ensures { λ t. ⌜ t ≡ passed s number ⌝ }
 {
-    if kind == counted {
-        return n + 1;
-    }
-    n
+    let mut t = s;
+    t.number = numbers::least(s.number, number);
+    t.records += 1;
+    t.job_last = false;
+    t
 }
 
-fn with_record(s: Survey, input: &[u8], r: Record) -> Survey
-    requires { ⌜ Next (now input) s r ⌝ }
-    ensures { λ t. ⌜ Added (now (input .entry)) s r t ⌝ }
+fn with_head(s: Survey, size: Size) -> Survey
+    requires { ⌜ Counted s ⌝ }
+    ensures { λ t. ⌜ t ≡ withHead s size ⌝ }
 {
-    Survey {
-        broken: s.broken,
-        unknown: s.unknown | unknown(r.kind),
-        misfit: s.misfit | misfit(input, r),
-        head_first: head_first(s, r.kind),
-        job_last: r.kind == record::JOB,
-        records: s.records + 1,
-        heads: count(s.heads, r.kind, record::HEAD),
-        arcs: count(s.arcs, r.kind, record::ARC),
-        jobs: count(s.jobs, r.kind, record::JOB),
-        last_at: r.start,
+    if s.records != 0 {
+        return after(s, number::WRONG_HEAD);
+    }
+    let mut t = after(s, numbers::NONE);
+    t.places = few_places(size.places);
+    t.arcs = size.arcs;
+    t
+}
+
+fn with_lane(s: Survey, lane: Lane) -> Survey
+    requires { ⌜ Counted s ⌝ }
+    ensures { λ t. ⌜ t ≡ withLane s lane ⌝ }
+{
+    let mut t = after(s, lane_number(s.records == 0, s.places, lane));
+    t.lanes += 1;
+    t
+}
+
+fn with_estimate(s: Survey, e: Estimate, marks: &mut [u8; Map::PLACES]) -> Survey
+    requires { ⌜ Counted s ⌝ }
+    ensures { λ t. ⌜ Noted (now (marks .entry)) s (Item.Estimate e) (now (marks .exit)) t ⌝ }
+{
+    let again = marks::mark(marks, s.places, e.place, e.value);
+    after(s, estimate_number(s.records == 0, s.places, e, again))
+}
+
+fn with_job(s: Survey, job: JobFields) -> Survey
+    requires { ⌜ Counted s ⌝ }
+    ensures { λ t. ⌜ t ≡ withJob s job ⌝ }
+{
+    let mut t = after(s, headless(s.records == 0));
+    t.jobs += 1;
+    t.job_last = true;
+    t.job = job;
+    t
+}
+
+fn with_item(s: Survey, item: Item, marks: &mut [u8; Map::PLACES]) -> Survey
+    requires { ⌜ Counted s ⌝ }
+    ensures { λ t. ⌜ Noted (now (marks .entry)) s item (now (marks .exit)) t ⌝ }
+{
+    match item {
+        Item::Head(size) => with_head(s, size),
+        Item::Lane(lane) => with_lane(s, lane),
+        Item::Estimate(e) => with_estimate(s, e, marks),
+        Item::Job(job) => with_job(s, job),
+        Item::Misfit => after(s, number::WRONG_LENGTH),
+        Item::Other => after(s, number::UNKNOWN_KIND),
     }
 }
 
-pub fn of(input: &[u8]) -> Survey
-    ensures { λ r. ⌜ Surveyed (now (input .entry)) r ⌝ }
+// An input with no record has no head.
+fn ended(s: Survey) -> Survey
+    ensures { λ t. ⌜ t ≡ atEnd s ⌝ }
+{
+    if s.records != 0 {
+        return s;
+    }
+    let mut t = s;
+    t.number = number::WRONG_HEAD;
+    t
+}
+
+pub fn of(input: &[u8], marks: &mut [u8; Map::PLACES]) -> Survey
+    requires { ⌜ Clear (now marks) ⌝ }
+    ensures { λ s. ⌜ Surveyed (now (input .entry)) (now (marks .exit)) s ⌝ }
 {
     let mut s = Survey {
-        broken: false,
-        unknown: false,
-        misfit: false,
-        head_first: false,
-        job_last: false,
+        number: numbers::NONE,
         records: 0,
-        heads: 0,
+        places: 0,
         arcs: 0,
+        lanes: 0,
         jobs: 0,
-        last_at: 0,
+        job_last: false,
+        job: JobFields {
+            start: 0,
+            allowance: 0,
+            goals: 0,
+            goals_at: 0,
+        },
     };
     let mut at: usize = 0;
     loop {
         match record::read_at(input, at) {
             Read::Whole(r) => {
-                s = with_record(s, input, r);
-                at = r.end;
+                let item = record::item_of(input, r);
+                s = with_item(s, item, marks);
+                at = record::end_of(r, item);
             }
             Read::Broken => {
-                s.broken = true;
+                s.number = number::BROKEN;
                 return s;
             }
-            Read::End => return s,
+            Read::End => return ended(s),
         }
     }
 }

@@ -1,5 +1,5 @@
 -- Laws of the passes, and how the last one leaves the map.
-pub mod RecordWords
+pub mod Items
 pub mod Counting
 pub mod Sums
 pub mod Placing

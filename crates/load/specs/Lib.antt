@@ -1,2 +1,3 @@
--- What each pass of loading leaves in the work area.
+-- What loading asks and leaves, and what each of its passes does.
+pub mod Loaded
 pub mod Load

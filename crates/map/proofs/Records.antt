@@ -12,6 +12,7 @@ use Rattle.map.specs.declared.record.Record.{Record}
 use Rattle.map.specs.declared.record.Read.{Read}
 use Rattle.map.specs.declared.record.Read.the-variants.{Whole, Broken, End}
 use Rattle.map.specs.Records.{readAt, recordIn}
+use Rattle.map.specs.Items.{LiesIn}
 use Rattle.map.proofs.Parts.{u16-drop}
 use Rattle.model.specs.Bytes.{u16}
 use Rattle.model.specs.Framing.{stop, push, frame}
@@ -56,7 +57,13 @@ frame-at : (s : List ℕ) (at : ℕ) → 4 ≤ length s - at
 frame-at s at h =
     let long : 4 ≤ length (drop at s) = rw length-drop h in
     let step = frame-first (drop at s) long in
-    rw (u16-drop at s 0 at (omega arith), u16-drop at s 2 (at + 2) refl, drop-drop 4 at s, drop-drop (u16 s at) (at + 4) s, length-drop (at + 4) s) at step
+    rw (
+      u16-drop at s 0 at (omega arith),
+      u16-drop at s 2 (at + 2) refl,
+      drop-drop 4 at s,
+      drop-drop (u16 s at) (at + 4) s,
+      length-drop (at + 4) s,
+    ) at step
 
 other : {A : Type 0} → _≡_ {A = ℕ} 0 1 → A
 other e = absurd (omega arith)
@@ -82,8 +89,7 @@ module _ (s : List ℕ) (at : ℕ) (inside : at ≤ length s) where
 
   pub record IsWhole (r : Record) : Type 0 where
     pub begins : r .start ≡ at + 4
-    pub forward : r .start ≤ r .end
-    pub ends : r .end ≤ length s
+    pub lies : LiesIn s r
     pub framed : frame (drop at s) ≡ push (recordIn s r) (frame (drop (r .end) s))
 
   whole-first : (n : ℕ) → n ≡ u16 s at → 4 ≤ length s - at → n ≤ length s - at - 4
@@ -92,8 +98,7 @@ module _ (s : List ℕ) (at : ℕ) (inside : at ≤ length s) where
       let body : at + 4 + n - (at + 4) ≡ n = omega arith in
       record {
         begins = refl;
-        forward = omega arith;
-        ends = omega arith;
+        lies = record { forward = omega arith; ends = omega arith };
         framed = frame-at s at h ∙ simp (← e, body, le-leb n (length s - (at + 4)) (omega arith));
       }
 
@@ -112,7 +117,4 @@ module _ (s : List ℕ) (at : ℕ) (inside : at ≤ length s) where
   pub less-left : (r : Record) → readAt s at ≡ Whole r → length s - r .end < length s - at
   less-left r e =
       let is = frame-whole r e in
-      let begins = is .begins in
-      let forward = is .forward in
-      let ends = is .ends in
-      omega arith
+      omega (arith, is .begins, is .lies .forward, is .lies .ends)

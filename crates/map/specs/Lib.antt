@@ -1,5 +1,6 @@
--- What a map's size, the records of an input and a map in the work area are.
+-- What a map's size is, and what the records of an input say.
 pub mod Sizes
 pub mod Records
+pub mod Items
 pub mod Jobs
-pub mod Layout
+pub mod Walks

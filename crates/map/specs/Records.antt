@@ -1,5 +1,4 @@
 -- What the reader finds at a position of the input.
-use mathlib.Core.Path.{_≡_}
 use mathlib.Core.Bool.{cond}
 use mathlib.Core.List.{List}
 use Prim.Native.Nat.{ℕ, _+_, _-_}
@@ -10,7 +9,6 @@ use Rattle.map.specs.declared.record.Read.{Read}
 use Rattle.map.specs.declared.record.Read.the-variants.{Whole, Broken, End}
 use Rattle.model.specs.Bytes.{u16}
 use Rattle.model.specs.Framing.{Record}
-use Rattle.model.specs.Input.{arcKind, estimateKind}
 
 unfoldable pub readAt : List ℕ → ℕ → Read
 readAt s at =
@@ -24,8 +22,3 @@ readAt s at =
 -- a record that was found in the input, as the definitions have it
 abbrev pub recordIn : List ℕ → declared.Record.Record → Record
 recordIn input r = record { kind = r .kind; body = take (r .end - r .start) (drop (r .start) input) }
-
--- a record ends where its kind says, if that alone says it
-pub record EndsByKind (r : declared.Record.Record) : Type 0 where
-  pub arc : r .kind ≡ arcKind → r .start + 6 ≡ r .end
-  pub estimate : r .kind ≡ estimateKind → r .start + 6 ≡ r .end

@@ -1,6 +1,7 @@
-// The map's type with the limits of document 01, the records of an input, and where a map lies in the work area.
-pub mod layout;
+// The map's type with the limits of document 01, and the records of an input.
+pub mod number;
 pub mod record;
+pub mod sheet;
 
 ghost use mathlib.Core.Path.{_≡_};
 ghost use Prim.Native.Nat.{_+_, _*_, _≤_};
@@ -42,7 +43,18 @@ impl Map {
         }
         NewMap::Within(Map { places, arcs })
     }
+}
 
+// What a search is told besides the words that hold its map: the map's size, the start, and what the budget is multiplied by when a round
+// closes.
+pub struct Site {
+    pub places: usize,
+    pub arcs: usize,
+    pub start: u32,
+    pub growth: u32,
+}
+
+impl Site {
     // The words of the work area that document 01 asks for.
     pub fn words(self) -> usize
         requires { ⌜ (self .places ≤ maxPlaces) × (self .arcs ≤ maxArcs) ⌝ }
@@ -60,22 +72,20 @@ impl Map {
     }
 }
 
-// An accepted input: the map's size, and what its job states. Its goals are `goals` numbers of 2 bytes from byte `goals_at` on.
+// An accepted input: what a search is told of it, the allowance, and its goals, `goals` numbers of 2 bytes from byte `goals_at` on.
 pub struct Job {
-    pub map: Map,
-    pub start: u32,
+    pub site: Site,
     pub allowance: u32,
     pub goals: usize,
     pub goals_at: usize,
 }
 
 impl Job {
-    pub fn new(map: Map, start: u32, allowance: u32, goals: usize, goals_at: usize) -> Self
-        ensures { λ r. ⌜ (r .map ≡ map) × (r .start ≡ start) × (r .allowance ≡ allowance) × (r .goals ≡ goals) × (r .«goals_at» ≡ «goals_at») ⌝ }
+    pub fn new(site: Site, allowance: u32, goals: usize, goals_at: usize) -> Self
+        ensures { λ r. ⌜ (r .site ≡ site) × (r .allowance ≡ allowance) × (r .goals ≡ goals) × (r .«goals_at» ≡ «goals_at») ⌝ }
     {
         Job {
-            map,
-            start,
+            site,
             allowance,
             goals,
             goals_at,

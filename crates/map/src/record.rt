@@ -1,52 +1,53 @@
-// Records of the input, one after another.
+// Records of the input, one after another, and what each says. Kinds, body lengths and the places of fields are spelled here and nowhere else.
 ghost use mathlib.Core.Path.{_≡_};
-ghost use Prim.Native.Nat.{_≤_};
+ghost use Prim.Native.Nat.{_+_, _≤_};
 ghost use lib.ListN.{length};
-ghost use Rattle.map.specs.Records.{readAt, EndsByKind};
+ghost use Rattle.map.specs.Records.{readAt};
+ghost use Rattle.map.specs.Items.{sizeAt, laneAt, estimateAt, jobAt, LiesIn, Says, EndsBy, EndsByKind};
 
-pub const HEAD: u16 = 1;
+const HEAD_KIND: u16 = 1;
 
-pub const ARC: u16 = 2;
+const ARC_KIND: u16 = 2;
 
-pub const ESTIMATE: u16 = 3;
+const ESTIMATE_KIND: u16 = 3;
 
-pub const JOB: u16 = 4;
+const JOB_KIND: u16 = 4;
 
 // The bytes before a record's body: its length and its kind.
-pub const HEADER: usize = 4;
+const HEADER: usize = 4;
 
 // How long a body is, by its kind; a job's length depends on its goals.
-pub const HEAD_BYTES: usize = 4;
+const HEAD_BYTES: usize = 4;
 
-pub const ARC_BYTES: usize = 6;
+const ARC_BYTES: usize = 6;
 
-pub const ESTIMATE_BYTES: usize = 6;
+const ESTIMATE_BYTES: usize = 6;
 
 // Where the fields of a head stand in its body.
-pub const PLACES: usize = 0;
+const PLACES: usize = 0;
 
-pub const ARCS: usize = 2;
+const ARCS: usize = 2;
 
 // Where the fields of an arc stand in its body: the place that it leaves, the place where it ends, its cost.
-pub const FROM: usize = 0;
+const FROM: usize = 0;
 
-pub const TO: usize = 2;
+const TO: usize = 2;
 
-pub const COST: usize = 4;
+const COST: usize = 4;
 
 // Where the fields of an estimate stand in its body.
-pub const PLACE: usize = 0;
+const PLACE: usize = 0;
 
-pub const VALUE: usize = 2;
+const VALUE: usize = 2;
 
 // Where the fields of a job stand in its body. Its goals are 2 bytes each.
-pub const START: usize = 0;
+const START: usize = 0;
 
-pub const ALLOWANCE: usize = 2;
+const ALLOWANCE: usize = 2;
 
-pub const GOAL_COUNT: usize = 6;
+const GOAL_COUNT: usize = 6;
 
-pub const GOALS: usize = 8;
+const GOALS: usize = 8;
 
 // A whole record: its kind, and where its body stands. The next one begins where the body ends.
 pub struct Record {
@@ -59,6 +60,40 @@ pub enum Read {
     Whole(Record),
     Broken,
     End,
+}
+
+pub struct Size {
+    pub places: usize,
+    pub arcs: usize,
+}
+
+pub struct Lane {
+    pub from: usize,
+    pub to: usize,
+    pub cost: u32,
+}
+
+pub struct Estimate {
+    pub place: usize,
+    pub value: u32,
+}
+
+// A job's goals are `goals` numbers of 2 bytes from byte `goals_at` on.
+pub struct JobFields {
+    pub start: u32,
+    pub allowance: u32,
+    pub goals: usize,
+    pub goals_at: usize,
+}
+
+// What a record says, by its kind. `Misfit` has one of document 01's kinds and a body of another length; `Other` has none of its kinds.
+pub enum Item {
+    Head(Size),
+    Lane(Lane),
+    Estimate(Estimate),
+    Job(JobFields),
+    Misfit,
+    Other,
 }
 
 // What stands at a position where a record should begin.
@@ -84,16 +119,109 @@ pub fn read_at(input: &[u8], at: usize) -> Read
     })
 }
 
-// Where a record ends that is as long as its kind asks. An arc's and an estimate's kind says it, so that what is read next need not wait for
-// the length that was just read.
-pub fn end_of(r: Record) -> usize
+fn head_at(input: &[u8], at: usize) -> Size
+    requires { ⌜ at + 4 ≤ length (now input) ⌝ }
+    ensures { λ r. ⌜ r ≡ sizeAt (now (input .entry)) at ⌝ }
+{
+    Size {
+        places: area::index(area::u16_at(input, at + PLACES)),
+        arcs: area::index(area::u16_at(input, at + ARCS)),
+    }
+}
+
+fn lane_at(input: &[u8], at: usize) -> Lane
+    requires { ⌜ at + 6 ≤ length (now input) ⌝ }
+    ensures { λ r. ⌜ r ≡ laneAt (now (input .entry)) at ⌝ }
+{
+    Lane {
+        from: area::index(area::u16_at(input, at + FROM)),
+        to: area::index(area::u16_at(input, at + TO)),
+        cost: area::wide16(area::u16_at(input, at + COST)),
+    }
+}
+
+fn estimate_at(input: &[u8], at: usize) -> Estimate
+    requires { ⌜ at + 6 ≤ length (now input) ⌝ }
+    ensures { λ r. ⌜ r ≡ estimateAt (now (input .entry)) at ⌝ }
+{
+    Estimate {
+        place: area::index(area::u16_at(input, at + PLACE)),
+        value: area::u32_at(input, at + VALUE),
+    }
+}
+
+// A job's body of `len` bytes that begins at byte `at`.
+fn job_at(input: &[u8], at: usize, len: usize) -> Item
+    requires { ⌜ at + len ≤ length (now input) ⌝ }
+    ensures { λ r. ⌜ r ≡ jobAt (now (input .entry)) at len ⌝ }
+{
+    if len < GOALS {
+        return Item::Misfit;
+    }
+    let goals = area::index(area::u16_at(input, at + GOAL_COUNT));
+    if len != GOALS + 2 * goals {
+        return Item::Misfit;
+    }
+    Item::Job(JobFields {
+        start: area::wide16(area::u16_at(input, at + START)),
+        allowance: area::u32_at(input, at + ALLOWANCE),
+        goals,
+        goals_at: at + GOALS,
+    })
+}
+
+pub fn item_of(input: &[u8], r: Record) -> Item
+    requires { ⌜ LiesIn (now input) r ⌝ }
+    ensures { λ i. ⌜ Says (now (input .entry)) r i ⌝ }
+{
+    let len = r.end - r.start;
+    if r.kind == ARC_KIND {
+        if len != ARC_BYTES {
+            return Item::Misfit;
+        }
+        return Item::Lane(lane_at(input, r.start));
+    }
+    if r.kind == ESTIMATE_KIND {
+        if len != ESTIMATE_BYTES {
+            return Item::Misfit;
+        }
+        return Item::Estimate(estimate_at(input, r.start));
+    }
+    if r.kind == HEAD_KIND {
+        if len != HEAD_BYTES {
+            return Item::Misfit;
+        }
+        return Item::Head(head_at(input, r.start));
+    }
+    if r.kind == JOB_KIND {
+        return job_at(input, r.start, len);
+    }
+    Item::Other
+}
+
+// Where a record ends that says this. That it is an arc or an estimate says it, so that what is read next need not wait for the length that
+// was just read.
+pub fn end_of(r: Record, item: Item) -> usize
+    requires { ⌜ EndsBy r item ⌝ }
+    ensures { λ e. ⌜ e ≡ r .end ⌝ }
+{
+    match item {
+        Item::Lane(_) => r.start + ARC_BYTES,
+        Item::Estimate(_) => r.start + ESTIMATE_BYTES,
+        Item::Head(_) | Item::Job(_) | Item::Misfit | Item::Other => r.end,
+    }
+}
+
+// Where a record ends whose body is as long as its kind says. An arc's and an estimate's kind says it, so that what is read next need not wait
+// for the length that was just read.
+pub fn end_by_kind(r: Record) -> usize
     requires { ⌜ EndsByKind r ⌝ }
     ensures { λ e. ⌜ e ≡ r .end ⌝ }
 {
-    if r.kind == ARC {
+    if r.kind == ARC_KIND {
         return r.start + ARC_BYTES;
     }
-    if r.kind == ESTIMATE {
+    if r.kind == ESTIMATE_KIND {
         return r.start + ESTIMATE_BYTES;
     }
     r.end

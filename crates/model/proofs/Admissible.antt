@@ -18,10 +18,10 @@ use Rattle.model.specs.Costs.{costAt, table}
 use Rattle.model.specs.Query.{Key, within, firstGoal, nextLimit, Outcome, ended, over, found, nothing, query}
 use Rattle.model.specs.Rounds.{Round, Step, firstRound, limitOf, closeIf, settle, after, ask, next, trace, total}
 use Rattle.model.specs.Routes.{routeTo}
-use Rattle.model.specs.Terms.{AtMost, IsWithin, Kept, Closes}
+use Rattle.model.specs.Terms.{AtMost, IsWithin, RoundKept, Closes}
 use Rattle.model.proofs.Lists.{none-some}
 use Rattle.model.proofs.LeastCosts.{start-below, end-below, entry-path, path-entry, start-within, larger-limit, table-length}
-use Rattle.model.proofs.Keys.{IsFirstGoal, first-goal-none, first-goal-some, within-some, within-monotone}
+use Rattle.model.proofs.Keys.{IsFirstGoal, first-goal-none, first-goal-some, within-length, within-some, within-monotone}
 use Rattle.model.proofs.Queries.{next-limit-some, ended-next, nothing-next, found-goal, over-exceeds}
 use Rattle.model.proofs.Crossing.{leaves, closed}
 use Rattle.model.proofs.Rounds.{along, asked, kept-first, kept-next, rounds-kept, low-limit}
@@ -60,7 +60,7 @@ module _ (p : Problem) (ok : Valid p) where
       no-goal : (firstGoal p (table p C) ≡ none) × (nextLimit p (table p C) ≡ none)
       no-goal = nothing-next p C (s .round .budget) (sym (outcome-asked s i) ∙ e)
 
-      kept : Kept p (s .round)
+      kept : RoundKept p (s .round)
       kept = rounds-kept p ok s i
 
       reached : {v d : ℕ} → PathTo p v d → IsWithin (table p C) v
@@ -74,6 +74,9 @@ module _ (p : Problem) (ok : Valid p) where
       let first = first-goal-some p (table p C) (g .0) (g .1) in
       let w = entry-path p C (g .0 .place) (g .0 .cost) (first .entry) in
       record { goal = g .0 .place; is-goal = first .is-goal; reachable = record { cost = g .0 .cost; path = w .path } }
+
+  pub within-at-most : (C : ℕ) → length (within (table p C)) ≤ p .places
+  within-at-most C = omega (arith, table-length p C, within-length (table p C))
 
   -- a larger limit has no fewer places within
   pub within-grows : (C E : ℕ) → C ≤ E → length (within (table p C)) ≤ length (within (table p E))
@@ -188,7 +191,7 @@ module _ (p : Problem) (ok : Valid p) where
               let next = next-limit-some p (table p C) x (ended-next p C b x e .1) in
               le-trans (next .least (out .arc) (out .cost) (out .crosses)) (out .bound)
 
-      pub low-next : (r s : Round) → Kept p r → r .low ≤ c → next p (ask p r) ≡ some s → s .low ≤ c
+      pub low-next : (r s : Round) → RoundKept p r → r .low ≤ c → next p (ask p r) ≡ some s → s .low ≤ c
       unfolding next ask after
       low-next r s x h e = go (query p C (r .budget) .outcome) refl e
         where
@@ -209,7 +212,7 @@ module _ (p : Problem) (ok : Valid p) where
       pub low-at-most-cheapest : (s : Step) → List·Memᴰ s (trace p) → s .round .low ≤ c
       unfolding firstRound
       low-at-most-cheapest s i =
-          along p (λ r. Kept p r × (r .low ≤ c)) (kept-first p ok, start-at-most)
+          along p (λ r. RoundKept p r × (r .low ≤ c)) (kept-first p ok, start-at-most)
           (λ r t x e. (kept-next p ok r t (x .0) e, low-next r t (x .0) (x .1) e)) s i .1
 
       pub some-within-cheapest : 1 ≤ length (within (table p c))
@@ -231,9 +234,3 @@ module _ (p : Problem) (ok : Valid p) where
               let low : z .round .low ≤ c = low-next (s .round) (z .round) (rounds-kept p ok s i) (low-at-most-cheapest s i) comes in
               let exceeds = over-exceeds p (z .round .low) (s .round .budget) (closes-over p ok s i z) in
               le-trans exceeds (within-grows (z .round .low) c low)
-
-      pub admissible-total-2 : p .growth ≡ 2 → total (trace p) ≤ 4 * length (within (table p c)) * (2 * binaryDigits c + 1)
-      admissible-total-2 two =
-          let n = length (within (table p c)) in
-          let bound = subst (λ (q : ℕ). (q - 1) * total (trace p) ≤ q * q * n * (2 * binaryDigits c + 1)) two admissible-total in
-          omega arith

@@ -62,7 +62,8 @@ pub spent-exactly : (p : Problem) (a : ℕ) → (search p a .spent ≡ true) ↔
 unfolding search
 spent-exactly p a = (ltb-true a (total (trace p)), lt-ltb a (total (trace p)))
 
-pub spent-cut : (p : Problem) (a : ℕ) → a < total (trace p) → (search p a .expansions ≡ a) × CutAt a (trace p) (search p a .last) (search p a .queries)
+pub spent-cut : (p : Problem) (a : ℕ) → a < total (trace p)
+    → (search p a .expansions ≡ a) × CutAt a (trace p) (search p a .last) (search p a .queries)
 unfolding search
 spent-cut p a h = (rw (lt-ltb a (total (trace p)) h) refl, begun-cut a (trace p) (ask p (firstRound p)) h)
 

@@ -115,7 +115,7 @@ shares-range (suc n) c (suc i) h l = shares-range n (c - min maxCost (c - n)) i 
 -- ---- Paths
 
 -- a path along the first places of the chain
-pub record Along (xs costs : List ℕ) (v d : ℕ) (r : List ℕ) : Type 0 where
+pub record OnChain (xs costs : List ℕ) (v d : ℕ) (r : List ℕ) : Type 0 where
   pub index : ℕ
   pub inside : index < length xs
   pub ends : v ≡ getD xs index 0
@@ -123,10 +123,10 @@ pub record Along (xs costs : List ℕ) (v d : ℕ) (r : List ℕ) : Type 0 where
   pub so-far : r ≡ take (suc index) xs
 
 -- and one arc further
-along-step : (xs costs : List ℕ) → Different xs → (a : Arc) (d : ℕ) (r : List ℕ) → Along xs costs (a .from) d r
-    → (i : ℕ) → suc i < length xs → a ≡ link xs costs i → Along xs costs (a .to) (d + a .cost) (r ++ (a .to ∷ []))
+on-chain-step : (xs costs : List ℕ) → Different xs → (a : Arc) (d : ℕ) (r : List ℕ) → OnChain xs costs (a .from) d r
+    → (i : ℕ) → suc i < length xs → a ≡ link xs costs i → OnChain xs costs (a .to) (d + a .cost) (r ++ (a .to ∷ []))
 unfolding sumTo
-along-step xs costs apart a d r before i l is =
+on-chain-step xs costs apart a d r before i l is =
     let from-is : a .from ≡ getD xs i 0 = ap (λ (x : Arc). x .from) is in
     let to-is : a .to ≡ getD xs (suc i) 0 = ap (λ (x : Arc). x .to) is in
     let cost-is : a .cost ≡ getD costs i 0 = ap (λ (x : Arc). x .cost) is in
@@ -153,13 +153,13 @@ module _ (xs costs : List ℕ) (goal : ℕ) (fits : length xs ≡ suc (length co
   reach (suc k) l = on (link xs costs k) (link-chain xs costs k l (omega arith)) (reach k (omega arith))
 
   -- Since the places differ, every path goes along the chain.
-  pub along : Different xs → {v d : ℕ} (w : PathTo (line xs costs goal) v d) → Along xs costs v d (places w)
+  pub on-chain : Different xs → {v d : ℕ} (w : PathTo (line xs costs goal) v d) → OnChain xs costs v d (places w)
   unfolding plain sumTo places
-  along apart stay =
+  on-chain apart stay =
       record { index = 0; inside = omega arith; ends = refl; cost = refl; so-far = sym (take-suc xs 0 0 (omega arith)) }
-  along apart (on {d = d} a m w) =
+  on-chain apart (on {d = d} a m w) =
       let (i, l, k, is) = chain-link xs costs a m in
-      along-step xs costs apart a d (places w) (along apart w) i l is
+      on-chain-step xs costs apart a d (places w) (on-chain apart w) i l is
 
   pub line-valid : ((i : ℕ) → i < length xs → getD xs i 0 < maxPlaces)
       → ((i : ℕ) → i < length costs → (1 ≤ getD costs i 0) × (getD costs i 0 ≤ maxCost)) → goal < maxPlaces → Valid (line xs costs goal)
@@ -226,7 +226,7 @@ module _ (cost : ℕ) (xs : List ℕ) (h : Possible cost xs) where
   pub route-unique : (c : ℕ) (r : List ℕ) → Route (routeProblem cost xs) c r → (c ≡ cost) × (r ≡ xs)
   unfolding plain
   route-unique c r route =
-      let a = along xs (stepCosts cost xs) (getD xs (steps xs) 0) enough (h .different) (route .path) in
+      let a = on-chain xs (stepCosts cost xs) (getD xs (steps xs) 0) enough (h .different) (route .path) in
       let at-goal : route .goal ≡ getD xs (steps xs) 0 = List·Memᴰ·eq-of-singleton (route .is-goal) in
       let last : a .index ≡ steps xs
       = same-index xs (h .different) (a .index) (steps xs) (a .inside) last-inside (sym (a .ends) ∙ at-goal) in
@@ -243,7 +243,7 @@ module _ (start goal : ℕ) where
   pub alone-unreachable : (goal ≡ start → ⊥) → GoalReachable (line (start ∷ []) [] goal) → ⊥
   unfolding plain
   alone-unreachable other r =
-      let a = along (start ∷ []) [] goal refl (λ i j l m e. omega arith) (r .reachable .path) in
+      let a = on-chain (start ∷ []) [] goal refl (λ i j l m e. omega arith) (r .reachable .path) in
       let first : a .index ≡ 0 = omega (arith, a .inside) in
       let at-start : r .goal ≡ start = a .ends ∙ ap (λ (i : ℕ). getD (start ∷ []) i 0) first in
       other (sym (List·Memᴰ·eq-of-singleton (r .is-goal)) ∙ at-start)

@@ -1,37 +1,36 @@
 -- `unfolding compute` opens all that `route`, `readSheet` and `hostAnswer` rest on, for theorems that are proved by computing them.
 use mathlib.Core.List.{headD, getLastD}
-use Rattle.model.specs.Lists.{any, filter, consIf, filterMap, lesser, leastBy, member, repeats, rises}
+use Rattle.model.specs.Lists.{any, filter, isGiven, consIf, filterMap, lesser, leastBy, member, repeats, rises}
 use Rattle.model.specs.Bytes.{u16, u32, u16s, put16, put32, put16s}
 use Rattle.model.specs.Framing.{stop, push, frameUpTo, frame, putRecord}
-use Rattle.model.specs.Input.{
-  bodyIf,
-  bodies,
-  firstBody,
-  placesOf,
-  arcCountOf,
-  arcOf,
-  arcsOf,
+use Rattle.model.specs.Items.{
+  headOf,
+  laneOf,
   estimateOf,
-  estimatesOf,
-  lookup,
-  startOf,
-  allowanceOf,
-  goalsOf,
-  problemOf,
-}
-use Rattle.model.specs.Refusals.{
-  broken,
-  unknownKind,
+  jobOf,
+  itemOf,
+  bodyLength,
+  otherThan,
   misfits,
+  items,
+  sizeIn,
+  laneIn,
+  estimateIn,
+  jobIn,
+}
+use Rattle.model.specs.Stated.{statedBy, stated, lookup, costUnder, arcUnder, problemOf}
+use Rattle.model.specs.Refusals.{
+  unknownKind,
   wrongLength,
-  beginsWith,
+  beginsWithHead,
   wrongHead,
   wrongSize,
   outsideMap,
+  isFree,
   freeArc,
   largeEstimate,
   twoEstimates,
-  endsWith,
+  endsWithJob,
   wrongJob,
   jobOutsideMap,
   wrongGoals,
@@ -39,6 +38,12 @@ use Rattle.model.specs.Refusals.{
   workWords,
   shortWork,
   shortSheet,
+  formRows,
+  sizeRows,
+  mapRows,
+  jobRows,
+  inputRows,
+  roomRows,
   rows,
   firstThatHolds,
   refusal,
@@ -101,32 +106,25 @@ use Rattle.model.specs.Sheets.{
   hostAnswer,
 }
 use Rattle.model.specs.Jobs.{putHead, putArc, putEstimate, putJob, shares, putChain, routeJob, noRouteJob}
-use Rattle.model.specs.Answer.{
-  finished,
-  searched,
-  endingIf,
-  ending,
-  sheetOf,
-  answerOf,
-  overFront,
-  workAfter,
-  route,
-}
+use Rattle.model.specs.Endings.{finished, endingIf, budgeted}
+use Rattle.model.specs.Answer.{sheetOf, answerOf, overFront, refusedWith, endedWith, callIf, call}
 
 unfoldable pub compute : Unit {0}
 unfolding
     headD getLastD
-    any filter consIf filterMap lesser leastBy member repeats rises
+    any filter isGiven consIf filterMap lesser leastBy member repeats rises
     u16 u32 u16s put16 put32 put16s
     stop push frameUpTo frame putRecord
-    bodyIf bodies firstBody placesOf arcCountOf arcOf arcsOf estimateOf estimatesOf lookup startOf allowanceOf goalsOf problemOf
-    broken unknownKind misfits wrongLength beginsWith wrongHead wrongSize outsideMap freeArc largeEstimate twoEstimates
-    endsWith wrongJob jobOutsideMap wrongGoals goalEstimate workWords shortWork shortSheet rows firstThatHolds refusal
+    headOf laneOf estimateOf jobOf itemOf bodyLength otherThan misfits items sizeIn laneIn estimateIn jobIn
+    statedBy stated lookup costUnder arcUnder problemOf
+    unknownKind wrongLength beginsWithHead wrongHead wrongSize outsideMap isFree freeArc largeEstimate twoEstimates
+    endsWithJob wrongJob jobOutsideMap wrongGoals goalEstimate workWords shortWork shortSheet
+    formRows sizeRows mapRows jobRows inputRows roomRows rows firstThatHolds refusal
     lowers storeIf arrive relaxFrom relax relaxAll sameEntry sameTable relaxUpTo startTable table
     precedes keyOf keysFrom within firstGoal lengthTo crossing nextLimit notOver judge queryOn query
     firstRound limitOf closeIf settle after ask next goOn traceUpTo trace total begun search
     parentBy parent extend routeUpTo routeTo
     routeSheet noRouteSheet reading refusedRead impossible checked fitsRoute fitsNoRoute readRecord readFramed readSheet hostAnswer
     putHead putArc putEstimate putJob shares putChain routeJob noRouteJob
-    finished searched endingIf ending sheetOf answerOf overFront workAfter route
+    finished endingIf budgeted sheetOf answerOf overFront refusedWith endedWith callIf call
 compute = tt

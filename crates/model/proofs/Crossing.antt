@@ -1,5 +1,5 @@
 -- The ended number: above the limit, with nothing changed below it, and of bounded size. Assumes nothing.
-use mathlib.Core.Path.{_≡_, refl}
+use mathlib.Core.Path.{_≡_, refl, ap}
 use mathlib.Core.Logic.{_⊎_, inl, inr}
 use mathlib.Core.Bool.{Bool, true, false}
 use mathlib.Core.List.{List, [], _∷_, List·Memᴰ, List·Memᴰ·append-cases, List·Memᴰ·eq-of-singleton}
@@ -15,12 +15,13 @@ use Rattle.model.specs.Limits.{maxCost}
 use Rattle.model.specs.Problem.{Problem, Arc, IsArc, Valid}
 use Rattle.model.specs.Paths.{stay, on, places, PathTo, Within, PathWithin}
 use Rattle.model.specs.Costs.{Table, costAt, table}
-use Rattle.model.specs.Query.{Key, within, nextLimit}
+use Rattle.model.specs.Query.{Key, within, nextLimit, ended, queryOn, query}
 use Rattle.model.specs.Terms.{AtMost, IsWithin, Inside}
 use Rattle.model.proofs.Lists.{none-some, filter-fewer, filter-shorter}
 use Rattle.model.proofs.Keys.{key, key-entry, within-shorter}
-use Rattle.model.proofs.LeastCosts.{Via, start-below, end-below, table-length, entry-path, start-within, arc-entry, entry-via, larger-limit, inside-not-cheaper, same-entries}
-use Rattle.model.proofs.Queries.{Crosses, IsNextLimit, next-limit-some, next-limit-none}
+use Rattle.model.proofs.LeastCosts.{Via, start-below, end-below, table-length, entry-path, start-within, arc-entry, entry-via, larger-limit}
+use Rattle.model.proofs.LeastCosts.{inside-not-cheaper, same-entries}
+use Rattle.model.proofs.Queries.{Crosses, IsLeastCrossing, next-limit-some, next-limit-none, ended-next}
 
 none-not-most : {A : Type 0} (o : Option ℕ) (d : ℕ) → o ≡ none → AtMost o d → A
 none-not-most o d e m = none-some {x = m .cost} (cc)
@@ -111,7 +112,7 @@ module _ (p : Problem) (ok : Valid p) where
   pub next-above-limit : (C x : ℕ) → nextLimit p (table p C) ≡ some x → C < x
   next-above-limit C x e = go (ltb C x) refl
     where
-      n : IsNextLimit p (table p C) x
+      n : IsLeastCrossing p (table p C) x
       n = next-limit-some p (table p C) x e
 
       go : (b : Bool) → ltb C x ≡ b → C < x
@@ -123,7 +124,7 @@ module _ (p : Problem) (ok : Valid p) where
   pub same-below-next : (C x E : ℕ) → nextLimit p (table p C) ≡ some x → C ≤ E → E < x → table p E ≡ table p C
   same-below-next C x E e h l = same-entries p E C (λ v. same-entry _ _ (down v) (larger-limit p ok C E h v))
     where
-      n : IsNextLimit p (table p C) x
+      n : IsLeastCrossing p (table p C) x
       n = next-limit-some p (table p C) x e
 
       start : p .estimate (p .start) ≤ C
@@ -171,5 +172,24 @@ module _ (p : Problem) (ok : Valid p) where
       let not-all-within = within-shorter (table p C) (a .to) end (n .crosses .outside) in
       omega (arith, table-length p C, ok .cost-below a (n .crosses .is-arc), h (a .to), n .sum)
 
-  pub sum-below : (C : ℕ) (a : Arc) (d : ℕ) → C < 2 ^ 30 → IsArc p a → costAt (table p C) (a .from) ≡ some d → d + a .cost + p .estimate (a .to) < 2 ^ 31
+  pub sum-below : (C : ℕ) (a : Arc) (d : ℕ) → C < 2 ^ 30 → IsArc p a → costAt (table p C) (a .from) ≡ some d
+      → d + a .cost + p .estimate (a .to) < 2 ^ 31
   sum-below C a d h i e = omega (arith, end-below (entry-path p C (a .from) d e), ok .cost-below a i, ok .estimate-below (a .to))
+
+  -- ---- An ended query
+
+  -- An ended number exceeds the limit.
+  pub ended-above-limit : (C b x : ℕ) → query p C b .outcome ≡ ended x → C < x
+  ended-above-limit C b x e = next-above-limit C x (ended-next p C b x e .1)
+
+  -- For every limit from C up to below the ended number the table is the same,
+  pub ended-same-table : (C b x E : ℕ) → query p C b .outcome ≡ ended x → C ≤ E → E < x → table p E ≡ table p C
+  ended-same-table C b x E e h l = same-below-next C x E (ended-next p C b x e .1) h l
+
+  -- and so is the query, for each budget.
+  pub ended-same-query : (C b x E : ℕ) → query p C b .outcome ≡ ended x → C ≤ E → E < x → (a : ℕ) → query p E a ≡ query p C a
+  unfolding query
+  ended-same-query C b x E e h l a = ap (λ (t : Table). queryOn p t a) (ended-same-table C b x E e h l)
+
+  pub ended-at-most : (H C b x : ℕ) → ((v : ℕ) → p .estimate v ≤ H) → query p C b .outcome ≡ ended x → x ≤ (p .places - 1) * maxCost + H
+  ended-at-most H C b x h e = next-at-most H C x h (ended-next p C b x e .1)

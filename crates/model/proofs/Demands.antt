@@ -1,11 +1,11 @@
 -- The demands on the R3, of a program: `P c r` says that the call c may come to the result r, as the program's promise has it. They hold of
 -- every program that keeps to the definition `route`, for every input and every lent area.
 -- Each demand is a record of statements; its proof stands right under it. Assumes nothing.
-use mathlib.Core.Path.{_≡_, sym, ap, subst⁻¹, _∙_}
+use mathlib.Core.Path.{_≡_, sym, ap, subst, subst⁻¹, _∙_}
 use mathlib.Core.Logic.{_↔_, _⊎_, inl, inr}
-use mathlib.Core.Bool.{true, false}
-use mathlib.Core.List.{List, [], _∷_, _++_, List·Memᴰ}
-use Prim.Native.Nat.{ℕ, _+_, _*_, _≤_, _<_}
+use mathlib.Core.Bool.{true}
+use mathlib.Core.List.{List, [], _∷_, _++_}
+use Prim.Native.Nat.{ℕ, _+_, _-_, _*_, _≤_, _<_}
 use native.Mathlib.Nat.{le-trans}
 use native.Mathlib.Omega.{arith}
 use lib.ListN.{length}
@@ -13,22 +13,25 @@ use Rattle.model.specs.Numbers.{binaryDigits}
 use Rattle.model.specs.Bytes.{Bytes}
 use Rattle.model.specs.Framing.{frame}
 use Rattle.model.specs.Paths.{GoalReachable, Route, Cheapest, FirstCheapest, FirstWithin, Admissible}
+use Rattle.model.specs.Stated.{problemOf}
 use Rattle.model.specs.Refusals.{Row, rows}
 use Rattle.model.specs.Costs.{table}
 use Rattle.model.specs.Query.{within}
-use Rattle.model.specs.Rounds.{trace, total}
+use Rattle.model.specs.Rounds.{trace, total, neverSpent}
 use Rattle.model.specs.Sheets.{routeSheet, noRouteSheet, reading, refusedRead, readSheet}
-use Rattle.model.specs.Answer.{Result, answer}
+use Rattle.model.specs.Answer.{Result, answer, refusedWith}
 use Rattle.model.specs.Calls.{Call, problem, allowance, IsAccepted, result, written, Program, Defined, Keeps, Writes}
 use Rattle.model.specs.Jobs.{routeJob, noRouteJob}
-use Rattle.model.proofs.Admissible.{admissible-total-2}
-use Rattle.model.proofs.Overstating.{has-cheapest}
+use Rattle.model.proofs.Laws.{admissible-total, never-spent-at-2, has-cheapest}
+use Rattle.model.proofs.Acceptance.{states-growth}
 use Rattle.model.proofs.Sheets.{refused-otherwise}
-use Rattle.model.proofs.Promises.{row-refuses, no-row-accepts, problem-growth, ends, valid, ends-number}
-use Rattle.model.proofs.Promises.{spent-by-number, none-by-number, route-by-number}
+use Rattle.model.proofs.Rows.{NoneHolds}
+use Rattle.model.proofs.Promises.{row-refuses, no-row-accepts, comes, valid, ends, ends-number, never-spent}
+use Rattle.model.proofs.Promises.{spent-by-number, none-by-number, route-by-number, spent-answer, none-answer, route-answer}
 use Rattle.model.proofs.Promises.{spent-if-exceeded, none-if-unreachable, route-if-reachable, unspent-expansions, expansions-at-most}
+use Rattle.model.proofs.Promises.{none-sheet-is, route-sheet-is, placesOf, none-read-back, route-reads-back, first-within, first-cheapest}
+use Rattle.model.proofs.Promises.{SheetSays, sheet-says, first-sheet, none-sheet, equal-routes, equal-starts, never-equal}
 use Rattle.model.proofs.Realized.{accepted-route-written, accepted-no-route-written}
-use Rattle.model.proofs.Promises.{Says, sheet-says, first-sheet, none-sheet, equal-routes, equal-starts, never-equal}
 
 -- Demand 1: if the map, the job or the lent memory breaks a rule, the call ends with the number that document 01 gives, and every lent
 -- byte and word is as before.
@@ -36,17 +39,25 @@ pub record Demand1 (c : Call) (r : Result) : Type 0 where
   -- a row of the table of conditions holds: its number is given where no earlier row holds, with six zeros, and nothing lent has changed
   pub refused : (earlier : List Row) (n : ℕ) (later : List Row)
       → rows (frame (c .input)) (length (c .work)) (length (c .sheet)) ≡ earlier ++ (record { number = n; holds = true } ∷ later)
-      → ((x : Row) → List·Memᴰ x earlier → x .holds ≡ false)
-      → r ≡ record { answer = answer n 0 0 0 0 0 0; work = c .work; sheet = c .sheet }
+      → NoneHolds earlier → r ≡ record { answer = answer n 0 0 0 0 0 0; work = c .work; sheet = c .sheet }
   -- and where no row holds the number is none of 1 to 15
-  pub accepted : ((x : Row) → List·Memᴰ x (rows (frame (c .input)) (length (c .work)) (length (c .sheet))) → x .holds ≡ false)
+  pub accepted : NoneHolds (rows (frame (c .input)) (length (c .work)) (length (c .sheet)))
       → (r .answer .number ≡ 0) ⊎ ((r .answer .number ≡ 16) ⊎ (r .answer .number ≡ 17))
 
 demand-1 : (c : Call) → Demand1 c (result c)
+unfolding refusedWith
 demand-1 c = record {
   refused = row-refuses (c .input) (c .work) (c .sheet);
-  accepted = λ fails. ends-number (ends c (no-row-accepts (c .input) (c .work) (c .sheet) fails));
+  accepted = λ fails. let A = no-row-accepts (c .input) (c .work) (c .sheet) fails in ends-number (comes c A) (ends c A);
 }
+
+-- Document 01's growth is 2, so that its figures are those of the laws at 2.
+growth-2 : (c : Call) → problem c .growth ≡ 2
+unfolding problemOf
+growth-2 c = states-growth (frame (c .input) .records)
+
+ample-236 : (c : Call) → 236 * problem c .places ≤ allowance c → neverSpent (problem c) ≤ allowance c
+ample-236 c h = rw (never-spent-at-2 (problem c) (growth-2 c)) h
 
 -- a cheapest route on the sheet
 pub record CheapestOnSheet (c : Call) (r : Result) : Type 0 where
@@ -84,21 +95,27 @@ pub record Demand2 (c : Call) (r : Result) : Type 0 where
 
 demand-2 : (c : Call) → IsAccepted c → Demand2 c (result c)
 demand-2 c A =
+    let k = comes c A in
     let e = ends c A in
+    let ok = valid c A in
     record {
       cheapest = λ h reachable lasts.
           let f = route-if-reachable e lasts reachable in
-          let r = f .first-cheapest h in
-          (f .number, record { places = f .places; is-route = r .first .member; cheapest = r .cheapest; on-sheet = f .on-sheet });
-      no-route = λ unspent. (λ n. none-by-number e n .unreachable, λ h. none-if-unreachable e unspent h .number);
-      no-route-sheet = λ n. none-by-number e n .on-sheet;
-      spent = (λ n. spent-by-number e n .exceeds, λ h. spent-if-exceeded e h .number);
-      never-spent = λ ample n. let s = spent-by-number e n in omega arith;
-      expansions = unspent-expansions e;
-      spent-expansions = λ n. spent-by-number e n .expansions;
-      route-read-back = λ n. let f = route-by-number e n in (f .places, f .on-sheet, f .read-back);
-      no-route-read-back = λ n. none-by-number e n .read-back;
-      within-limit = λ n. let f = route-by-number e n in record { places = f .places; first = f .first-within; on-sheet = f .on-sheet };
+          let r = first-cheapest k ok h f in (
+            rw (route-answer k f),
+            record { places = placesOf k f; is-route = r .first .member; cheapest = r .cheapest; on-sheet = route-sheet-is k f },
+          );
+      no-route = λ unspent. (λ n. none-by-number k e n .unreachable, λ h. rw (none-answer k (none-if-unreachable k e unspent h)));
+      no-route-sheet = λ n. none-sheet-is k (none-by-number k e n);
+      spent = (λ n. spent-by-number k e n .exceeds, λ h. rw (spent-answer k (spent-if-exceeded e h)));
+      never-spent = λ ample n. never-spent ok (ample-236 c ample) (spent-by-number k e n);
+      expansions = unspent-expansions k e;
+      spent-expansions = λ n. rw (spent-answer k (spent-by-number k e n));
+      route-read-back = λ n. let f = route-by-number k e n in (placesOf k f, route-sheet-is k f, route-reads-back k ok f);
+      no-route-read-back = λ n. none-read-back k ok (none-by-number k e n);
+      within-limit = λ n.
+          let f = route-by-number k e n in
+          record { places = placesOf k f; first = first-within k ok f; on-sheet = route-sheet-is k f };
     }
 
 -- Demand 2, of a read of any bytes b: it is accepted, as 0 or 17, only where some job could produce them. Each is the sheet of this job.
@@ -165,15 +182,24 @@ demand-3 : Demand3 Defined
 demand-3 = record {
   equal-sheets = λ c d r s g h C D. rw (g, h) (equal-then-same c d (says c C) (says d D), same-then-equal c d C D);
   expansions = λ c r g A h k cheapest.
-      let bound = admissible-total-2 (problem c) (valid c A) h k cheapest (problem-growth (c .input)) in
-      rw g (le-trans (expansions-at-most (ends c A)) bound);
+      let bound = at-2 c k (admissible-total (problem c) (valid c A) h k cheapest) in
+      rw g (le-trans (expansions-at-most (comes c A) (ends c A)) bound);
   some-cheapest = λ c A reachable. has-cheapest (problem c) (valid c A) reachable;
 }
   where
-    says : (c : Call) → Comparable c → Says (problem c) (written (result c))
-    says c C = sheet-says (ends c (C .accepted)) (C .ample) (C .admissible)
+    says : (c : Call) → Comparable c → SheetSays (problem c) (written (result c))
+    says c C = let A = C .accepted in sheet-says (comes c A) (valid c A) (ends c A) (ample-236 c (C .ample)) (C .admissible)
 
-    equal-then-same : (c d : Call) → Says (problem c) (written (result c)) → Says (problem d) (written (result d))
+    at-2 : (c : Call) (k : ℕ) → let p = problem c in
+        (p .growth - 1) * total (trace p) ≤ p .growth * p .growth * length (within (table p k)) * (2 * binaryDigits k + 1)
+        → total (trace p) ≤ 4 * length (within (table p k)) * (2 * binaryDigits k + 1)
+    at-2 c k bound =
+        let n = length (within (table (problem c) k)) in
+        let t = total (trace (problem c)) in
+        let two = subst (λ (q : ℕ). (q - 1) * t ≤ q * q * n * (2 * binaryDigits k + 1)) (growth-2 c) bound in
+        omega arith
+
+    equal-then-same : (c d : Call) → SheetSays (problem c) (written (result c)) → SheetSays (problem d) (written (result d))
         → written (result c) ≡ written (result d) → SameFirstRoute c d ⊎ SameNoRoute c d
     equal-then-same c d (inl x) (inl y) e = inl (record { cost = x .cost; places = x .places; first = x .first; second = equal-routes e x y })
     equal-then-same c d (inl x) (inr y) e = absurd (never-equal e x y)

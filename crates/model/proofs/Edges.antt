@@ -8,12 +8,13 @@ use lib.Dec.{eqb}
 use lib.ListN.{replicate}
 use Rattle.model.specs.Bytes.{put16, put32}
 use Rattle.model.specs.Framing.{Record, frame, putRecord}
-use Rattle.model.specs.Input.{headKind, arcKind, estimateKind, jobKind}
+use Rattle.model.specs.Items.{headKind, arcKind, estimateKind, jobKind}
+use Rattle.model.specs.Stated.{stated}
 use Rattle.model.specs.Refusals.{wrongSize, refusal}
 use Rattle.model.specs.Jobs.{putHead, putArc, putEstimate, putJob}
 use Rattle.model.specs.Sheets.{readSheet, hostAnswer}
 use Rattle.model.proofs.Compute.{compute}
-use Rattle.model.proofs.Runs.{Run, same, seven, over, agrees, agree, run, sheet9}
+use Rattle.model.proofs.Runs.{Case, same, seven, over, agrees, agree, case, sheet9}
 
 -- A job whose start is its goal ends at once, with the route 0 at cost 0: what passes below comes to this.
 here : List ℕ
@@ -26,11 +27,11 @@ arrived : List ℕ
 arrived = 0 ∷ 0 ∷ 0 ∷ 0 ∷ 0 ∷ 1 ∷ 12 ∷ []
 
 -- a map of n places and m arcs passes
-passes : (n m : ℕ) → List ℕ → Run
-passes n m input = run input arrived (16 * n + 2 * m) sheet0
+passes : (n m : ℕ) → List ℕ → Case
+passes n m input = case input arrived (16 * n + 2 * m) sheet0
 
-refused : ℕ → List ℕ → Run
-refused number input = run input (number ∷ 0 ∷ 0 ∷ 0 ∷ 0 ∷ 0 ∷ 0 ∷ []) 0 []
+refused : ℕ → List ℕ → Case
+refused number input = case input (number ∷ 0 ∷ 0 ∷ 0 ∷ 0 ∷ 0 ∷ 0 ∷ []) 0 []
 
 -- a head of one place, and of two places with so many arcs
 one : List ℕ
@@ -39,7 +40,7 @@ one = putHead 1 0
 two : ℕ → List ℕ
 two m = putHead 2 m
 
-mapEdges : List Run
+mapEdges : List Case
 mapEdges =
     passes 1 0 (one ++ here)
     -- 1: bytes left over, and a body that runs past the end
@@ -88,7 +89,7 @@ mapEdges =
     ∷ passes 2 0 (two 0 ++ putEstimate 0 0 ++ putEstimate 1 6 ++ here)
     ∷ []
 
-jobEdges : List Run
+jobEdges : List Case
 jobEdges =
     -- 10: no job, two jobs, one that is not last
     refused 10 one
@@ -108,7 +109,7 @@ jobEdges =
     ∷ []
 
 -- the map of two places and an arc, on so many words and bytes
-lent : (words bytes number : ℕ) → Run
+lent : (words bytes number : ℕ) → Case
 lent words bytes number =
     record {
       input = two 1 ++ putArc 0 1 1 ++ here;
@@ -120,7 +121,7 @@ lent words bytes number =
     }
 
 -- 14 and 15: 16 × 2 + 2 × 1 words and 10 + 2 × 2 bytes are enough
-roomEdges : List Run
+roomEdges : List Case
 roomEdges =
     record {
       input = two 1 ++ putArc 0 1 1 ++ here;
@@ -136,7 +137,7 @@ roomEdges =
     ∷ []
 
 edges-agree : agree (mapEdges ++ jobEdges ++ roomEdges) ≡ true
-unfolding compute same seven over agrees agree run here sheet0 arrived passes refused one two mapEdges jobEdges lent roomEdges
+unfolding compute same seven over agrees agree case here sheet0 arrived passes refused one two mapEdges jobEdges lent roomEdges
 edges-agree = refl
 
 -- ---- The largest numbers. Of whole inputs as large as these only the refusal can be computed, or one condition.
@@ -162,7 +163,7 @@ withArcs : ℕ → List Record
 withArcs m =
     record { kind = headKind; body = put16 1 ++ put16 m } ∷ replicate m (record { kind = arcKind; body = put16 0 ++ put16 0 ++ put16 1 })
 
-most-arcs : (wrongSize (withArcs 16384) ≡ false) × (wrongSize (withArcs 16385) ≡ true)
+most-arcs : (wrongSize (stated (withArcs 16384)) ≡ false) × (wrongSize (stated (withArcs 16385)) ≡ true)
 unfolding compute withArcs
 most-arcs = (refl, refl)
 

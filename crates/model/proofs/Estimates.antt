@@ -1,5 +1,5 @@
--- Document 01's map A, where the true distance of place 1 is 4: with any estimate up to 4 there, as in P1, nothing overstates; with any above, as in P5,
--- place 1 does.
+-- Document 01's map A, where the true distance of place 1 is 4: with any estimate up to 4 there, as in P1, nothing overstates; with any
+-- above, as in P5, place 1 does.
 use mathlib.Core.Path.{refl}
 use mathlib.Core.Bool.{Bool}
 use mathlib.Core.List.{[], _∷_, _++_, List·Memᴰ·head, List·Memᴰ·tail}
@@ -11,7 +11,7 @@ use Rattle.model.specs.Framing.{frame}
 use Rattle.model.specs.Limits.{maxEstimate}
 use Rattle.model.specs.Problem.{Problem, Arc}
 use Rattle.model.specs.Paths.{stay, on, Overstates, Admissible}
-use Rattle.model.specs.Input.{problemOf}
+use Rattle.model.specs.Stated.{stated, problemOf}
 use Rattle.model.specs.Jobs.{putJob}
 use Rattle.model.specs.Terms.{Consistent}
 use Rattle.model.proofs.Lists.{any-false}
@@ -22,7 +22,7 @@ use Rattle.model.proofs.Overstating.{below-consistent}
 
 -- map A with the estimate h at place 1, from 0 to 3
 problemA : ℕ → Problem
-problemA h = problemOf (frame (mapA h ++ putJob 0 944 (3 ∷ [])) .records)
+problemA h = problemOf (stated (frame (mapA h ++ putJob 0 944 (3 ∷ [])) .records))
 
 -- the least costs to place 3
 distance : ℕ → ℕ

@@ -3,10 +3,14 @@ pub mod Compute
 pub mod Runs
 pub mod Edges
 pub mod Lists
+pub mod Tests
+pub mod Sums
 pub mod Bytes
 pub mod Framing
 pub mod Records
 pub mod Indices
+pub mod Items
+pub mod Rows
 pub mod Acceptance
 pub mod Relaxing
 pub mod LeastCosts

@@ -1,15 +1,17 @@
 -- Laws of tests and choices over lists. Assumes nothing.
 use mathlib.Core.Path.{_≡_, refl, sym, _∙_, ap}
-use mathlib.Core.Logic.{_↔_, _⊎_, inl, inr}
-use mathlib.Core.Bool.{Bool, true, false, cond, _&&_, _||_, true≢false, false≢true}
-use mathlib.Core.List.{List, [], _∷_, List·Memᴰ, List·Memᴰ·head, List·Memᴰ·tail, List·Memᴰ·not-nil, List·Memᴰ·cases-cons, Memᴰ·cast}
+use mathlib.Core.Logic.{_↔_, _⊎_, inl, inr, ⊎-elim}
+use mathlib.Core.Bool.{Bool, true, false, cond, not, _&&_, _||_, true≢false, false≢true}
+use mathlib.Core.List.{List, [], _∷_, _++_, map, List·Memᴰ, List·Memᴰ·head, List·Memᴰ·tail, List·Memᴰ·not-nil, List·Memᴰ·cases-cons, Memᴰ·cast}
+use mathlib.Core.List.{List·Memᴰ·append-cases, List·Memᴰ·eq-of-singleton, Memᴰ·append-left, Memᴰ·append-right}
 use mathlib.Core.Option.{Option, none, some, Option·none-ne-some, Option·some-injective}
-use Prim.Native.Nat.{ℕ, _+_, _≤_, _<_}
+use Prim.Native.Nat.{ℕ, zero, suc, _+_, _≤_, _<_}
+use native.Mathlib.Decide.{ℕ-discrete}
 use native.Mathlib.Omega.{arith}
 use lib.Dec.{ltb, eqb}
-use lib.ListN.{length}
-use borrow.Author.Tests.{ltb-true, ltb-false, le-ltb, eqb-true, eqb-false}
-use Rattle.model.specs.Lists.{any, filter, consIf, filterMap, lesser, leastBy, least, member}
+use lib.ListN.{length, getD, length-append}
+use borrow.Author.Tests.{ltb-true, ltb-false, le-ltb, eqb-true, eqb-false, eq-eqb}
+use Rattle.model.specs.Lists.{any, filter, consIf, filterMap, lesser, leastBy, least, member, repeats, below}
 
 pub none-some : {A B : Type 0} {x : A} → _≡_ {A = Option A} none (some x) → B
 none-some e = absurd (Option·none-ne-some _ e)
@@ -228,3 +230,49 @@ member-true x xs = (equal, go (any (eqb x) xs) refl)
     go : (b : Bool) → any (eqb x) xs ≡ b → List·Memᴰ x xs → b ≡ true
     go true e i = refl
     go false e i = absurd (eqb-false x x (any-false (eqb x) xs e x i) refl)
+
+pub not-true-false : (b : Bool) → (b ≡ true → ⊥) → b ≡ false
+not-true-false true h = absurd (h refl)
+not-true-false false h = refl
+
+-- a member stands somewhere, and what stands somewhere is a member
+module _ {A B : Type 0} (f : A → B) (d : A) where
+  pub member-at : (xs : List A) (y : B) → List·Memᴰ y (map f xs) → (i : ℕ) × (i < length xs) × (y ≡ f (getD xs i d))
+  member-at [] y m = absurd (List·Memᴰ·not-nil m)
+  member-at (x ∷ xs) y (List·Memᴰ·head e) = (0, omega arith, e)
+  member-at (x ∷ xs) y (List·Memᴰ·tail m) = let r = member-at xs y m in (suc (r .0), omega (arith, r .1), r .2)
+
+  pub at-member : (xs : List A) (i : ℕ) → i < length xs → List·Memᴰ (f (getD xs i d)) (map f xs)
+  at-member [] i h = absurd (omega arith)
+  at-member (x ∷ xs) zero h = List·Memᴰ·head refl
+  at-member (x ∷ xs) (suc i) h = List·Memᴰ·tail (at-member xs i (omega arith))
+
+pub below-member : (n g : ℕ) → List·Memᴰ g (below n) ↔ (g < n)
+unfolding below
+below-member zero g = (λ i. absurd (List·Memᴰ·not-nil i), λ l. absurd (omega arith))
+below-member (suc n) g = (down (below-member n g .0), up (below-member n g .1) (ℕ-discrete g n))
+  where
+    down : (List·Memᴰ g (below n) → g < n) → List·Memᴰ g (below n ++ (n ∷ [])) → g < suc n
+    down rest i =
+        ⊎-elim (λ m. omega (arith, rest m)) (λ m. omega (arith, List·Memᴰ·eq-of-singleton m)) (List·Memᴰ·append-cases (below n) i)
+
+    up : (g < n → List·Memᴰ g (below n)) → Dec (g ≡ n) → g < suc n → List·Memᴰ g (below n ++ (n ∷ []))
+    up rest (yes e) l = Memᴰ·append-right (below n) (List·Memᴰ·head e)
+    up rest (no e) l = Memᴰ·append-left (n ∷ []) (rest (omega arith))
+
+-- numbers that do not repeat and that all stand in a list are at most as many as the list has
+pub different-among : (xs ys : List ℕ) → repeats xs ≡ false → ((x : ℕ) → List·Memᴰ x xs → List·Memᴰ x ys) → length xs ≤ length ys
+unfolding repeats member
+different-among [] ys e h = omega arith
+different-among (x ∷ xs) ys e h =
+    let (new, rest) = neither (member x xs) (repeats xs) e in
+    let other : ℕ → Bool = λ y. not (eqb x y) in
+    let shorter = filter-shorter other ys x (h x (List·Memᴰ·head refl)) (ap not (eq-eqb x x refl)) in
+    let among : (y : ℕ) → List·Memᴰ y xs → List·Memᴰ y (filter other ys) =
+    λ y i. filter-member other ys y .1 (h y (List·Memᴰ·tail i), ap not (any-false (eqb x) xs new y i)) in
+    omega (arith, different-among xs (filter other ys) rest among)
+
+pub below-length : (n : ℕ) → length (below n) ≡ n
+unfolding below
+below-length zero = refl
+below-length (suc n) = omega (arith, length-append (below n) (n ∷ []), below-length n)

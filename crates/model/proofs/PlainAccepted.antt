@@ -1,74 +1,26 @@
 -- The job of a valid problem with 4,096 places, no estimates and one goal is accepted. Assumes nothing.
 use mathlib.Core.Path.{_≡_, refl}
 use mathlib.Core.Bool.{Bool, true, false, _||_}
-use mathlib.Core.List.{List, [], _∷_, List·Memᴰ, List·Memᴰ·head, List·Memᴰ·tail}
+use mathlib.Core.List.{List, [], _∷_, _++_, map, List·Memᴰ, List·Memᴰ·head, Memᴰ·of-map}
 use Prim.Native.Nat.{ℕ, _+_, _*_, _≤_}
 use native.Mathlib.Omega.{arith}
 use lib.Dec.{ltb, leb, eqb}
-use lib.ListN.{length}
+use lib.ListN.{length, length-map}
 use borrow.Author.Tests.{le-ltb, lt-leb, eq-eqb, ne-eqb}
-use Rattle.model.specs.Lists.{any, repeats, rises}
-use Rattle.model.specs.Bytes.{u16, put16, put32, put16s}
-use Rattle.model.specs.Framing.{Record, Framed}
+use Rattle.model.specs.Lists.{any, consIf, filterMap, isGiven, repeats, rises}
+use Rattle.model.specs.Bytes.{u16, u16s, put16, put32, put16s}
+use Rattle.model.specs.Framing.{Record}
 use Rattle.model.specs.Limits.{maxPlaces, maxArcs}
-use Rattle.model.specs.Problem.{Problem, Arc, IsArc, Valid}
-use Rattle.model.specs.Input.{arcKind, jobKind, lookup}
-use Rattle.model.specs.Refusals.{
-  broken,
-  unknownKind,
-  misfits,
-  wrongLength,
-  beginsWith,
-  wrongHead,
-  wrongSize,
-  outsideMap,
-  freeArc,
-  largeEstimate,
-  twoEstimates,
-  endsWith,
-  wrongJob,
-  jobOutsideMap,
-  wrongGoals,
-  goalEstimate,
-  workWords,
-  shortWork,
-  shortSheet,
-  rows,
-  firstThatHolds,
-  refusal,
-  Accepted,
-}
-use Rattle.model.proofs.Acceptance.{NoneHolds}
-use Rattle.model.proofs.PlainJobs.{plain, plainJob, withArcs, plainRecords, plain-framed, head-bodies, job-bodies, States, plain-states}
-
-any-none : {A : Type 0} (f : A → Bool) (xs : List A) → ((x : A) → List·Memᴰ x xs → f x ≡ false) → any f xs ≡ false
-unfolding any
-any-none f [] none = refl
-any-none f (x ∷ xs) none = rw (none x (List·Memᴰ·head refl)) (any-none f xs (λ y i. none y (List·Memᴰ·tail i)))
-
-or-none : (a b : Bool) → a ≡ false → b ≡ false → a || b ≡ false
-or-none a b p q = rw (p, q)
-
-none-refused : (f : Framed) (words bytes : ℕ) → NoneHolds f words bytes → refusal f words bytes ≡ 0
-unfolding refusal rows firstThatHolds
-none-refused f words bytes none =
-    rw (
-      none .no-1,
-      none .no-2,
-      none .no-3,
-      none .no-4,
-      none .no-5,
-      none .no-6,
-      none .no-7,
-      none .no-8,
-      none .no-9,
-      none .no-10,
-      none .no-11,
-      none .no-12,
-      none .no-13,
-      none .no-14,
-      none .no-15,
-    )
+use Rattle.model.specs.Problem.{Arc, Valid}
+use Rattle.model.specs.Items.{arcKind, Lane, Item, lane, jobOf, itemOf, bodyLength, otherThan, misfits, sizeIn, jobIn}
+use Rattle.model.specs.Stated.{lookup}
+use Rattle.model.specs.Refusals.{unknownKind, wrongLength, beginsWithHead, wrongHead, wrongSize, outsideMap, isFree, freeArc}
+use Rattle.model.specs.Refusals.{largeEstimate, twoEstimates, endsWithJob, wrongJob, jobOutsideMap, wrongGoals, goalEstimate}
+use Rattle.model.specs.Refusals.{workWords, shortWork, shortSheet, formRows, sizeRows, mapRows, jobRows, inputRows, roomRows, rows}
+use Rattle.model.specs.Refusals.{firstThatHolds, refusal, Accepted}
+use Rattle.model.proofs.Tests.{any-none, or-none}
+use Rattle.model.proofs.PlainJobs.{plain, plainJob, withArcs, plainRecords, plain-framed, flatLane, plainItems, plainStated}
+use Rattle.model.proofs.PlainJobs.{lanes-give-none, plain-said, plain-stated}
 
 -- ---- Conditions on the records themselves
 
@@ -80,112 +32,101 @@ withArcs-any f [] rs none others = others
 withArcs-any f (a ∷ arcs) rs none others =
     or-none (f _) _ (none _ refl) (withArcs-any f arcs rs none others)
 
--- the last of a record, arcs and one more record is that one
-withArcs-ends : (kind : ℕ) (s r : Record) (arcs : List Arc) → endsWith kind (s ∷ withArcs arcs (r ∷ [])) ≡ eqb (r .kind) kind
-unfolding withArcs endsWith
-withArcs-ends kind s r [] = refl
-withArcs-ends kind s r (a ∷ arcs) = withArcs-ends kind _ r arcs
+any-lanes : (f : Item → Bool) (arcs : List Arc) (is : List Item) → ((a : Arc) → f (lane (flatLane a)) ≡ false)
+    → any f is ≡ false → any f (map (λ (a : Arc). lane (flatLane a)) arcs ++ is) ≡ false
+unfolding any
+any-lanes f [] is none others = others
+any-lanes f (a ∷ arcs) is none others = rw (none a) (any-lanes f arcs is none others)
+
+-- the last of an item, lanes and one more item is that one
+lanes-end : (i j : Item) (arcs : List Arc) → endsWithJob (i ∷ (map (λ (a : Arc). lane (flatLane a)) arcs ++ (j ∷ []))) ≡ isGiven (jobIn j)
+unfolding endsWithJob
+lanes-end i j [] = refl
+lanes-end i j (a ∷ arcs) = lanes-end _ j arcs
 
 module _ (arcs : List Arc) (start goal : ℕ) where
-  known-kinds : unknownKind (plainRecords arcs start goal) ≡ false
-  unfolding plainRecords unknownKind any
-  known-kinds = withArcs-any _ arcs _ (λ b l. refl) refl
-
   right-lengths : wrongLength (plainRecords arcs start goal) ≡ false
-  unfolding plainRecords wrongLength misfits any u16 put16 put32 put16s
+  unfolding plainRecords wrongLength misfits itemOf bodyLength otherThan jobOf any u16 u16s put16 put32 put16s
   right-lengths = withArcs-any misfits arcs _ (λ b l. rw l) refl
 
-  right-head : wrongHead (plainRecords arcs start goal) ≡ false
-  unfolding plainRecords wrongHead beginsWith
-  right-head = rw (head-bodies arcs start goal)
+  known-kinds : unknownKind (plainItems arcs start goal) ≡ false
+  unfolding plainItems unknownKind bodyLength isGiven any
+  known-kinds = any-lanes _ arcs _ (λ a. refl) refl
 
-  right-job : wrongJob (plainRecords arcs start goal) ≡ false
-  unfolding plainRecords wrongJob
-  right-job = rw (job-bodies arcs start goal, withArcs-ends jobKind _ _ arcs)
+  right-head : wrongHead (plainItems arcs start goal) ≡ false
+  unfolding plainItems wrongHead beginsWithHead sizeIn isGiven filterMap consIf
+  right-head = rw (lanes-give-none sizeIn (λ a. refl) arcs)
+
+  right-job : wrongJob (plainItems arcs start goal) ≡ false
+  unfolding plainItems wrongJob jobIn isGiven filterMap consIf
+  right-job = rw (lanes-give-none jobIn (λ a. refl) arcs, lanes-end _ _ arcs)
 
 -- ---- Conditions on what the records state
 
-module _ (rs : List Record) (p : Problem) (s : States rs p) (ok : Valid p) (few : length (p .arcs) ≤ maxArcs) where
-  right-size : wrongSize rs ≡ false
-  unfolding wrongSize
-  right-size =
-      let some : ltb (p .places) 1 ≡ false = le-ltb (p .places) 1 (ok .some-place) in
-      let places-fit : ltb maxPlaces (p .places) ≡ false = le-ltb maxPlaces (p .places) (ok .few-places) in
-      let arcs-fit : ltb maxArcs (length (p .arcs)) ≡ false = le-ltb maxArcs (length (p .arcs)) few in
-      let counted : eqb (length (p .arcs)) (length (p .arcs)) ≡ true = eq-eqb (length (p .arcs)) (length (p .arcs)) refl in
-      rw (s .places, s .arc-count, s .arc-records, some, places-fit, arcs-fit, counted)
-
-  inside-map : outsideMap rs ≡ false
-  unfolding outsideMap any
-  inside-map =
-      let none = any-none _ (p .arcs) (λ a i. or-none (leb (p .places) (a .from)) _ (from-below a i) (to-below a i)) in
-      rw (s .places, s .arcs, s .no-estimates) (or-none (any _ (p .arcs)) false none refl)
-    where
-      from-below : (a : Arc) → IsArc p a → leb (p .places) (a .from) ≡ false
-      from-below a i = lt-leb (p .places) (a .from) (ok .arc-from a i)
-
-      to-below : (a : Arc) → IsArc p a → leb (p .places) (a .to) ≡ false
-      to-below a i = lt-leb (p .places) (a .to) (ok .arc-to a i)
-
-  no-free-arc : freeArc rs ≡ false
-  unfolding freeArc
-  no-free-arc = rw (s .arcs) (any-none _ (p .arcs) λ a i. ne-eqb (a .cost) 0 (λ e. omega (arith, ok .cost-above a i)))
-
-  no-large-estimate : largeEstimate rs ≡ false
-  unfolding largeEstimate any
-  no-large-estimate = rw (s .no-estimates)
-
-  no-two-estimates : twoEstimates rs ≡ false
-  unfolding twoEstimates repeats
-  no-two-estimates = rw (s .no-estimates)
-
-  job-inside-map : jobOutsideMap rs ≡ false
-  unfolding jobOutsideMap
-  job-inside-map =
-      let start-below : leb (p .places) (p .start) ≡ false = lt-leb (p .places) (p .start) (ok .start-below) in
-      let goals-below = any-none (leb (p .places)) (p .goals) (λ g i. lt-leb (p .places) g (ok .goal-below g i)) in
-      rw (s .places, s .start, s .goals) (or-none (leb (p .places) (p .start)) _ start-below goals-below)
-
-  no-goal-estimate : goalEstimate rs ≡ false
-  unfolding goalEstimate lookup
-  no-goal-estimate = rw (s .no-estimates) (any-none _ _ λ g i. refl)
-
-  enough-work : (words : ℕ) → 16 * p .places + 2 * length (p .arcs) ≤ words → shortWork rs words ≡ false
-  unfolding shortWork workWords
-  enough-work words h = rw (s .places, s .arc-count) (le-ltb words _ h)
-
-  enough-sheet : (bytes : ℕ) → 10 + 2 * p .places ≤ bytes → shortSheet rs bytes ≡ false
-  unfolding shortSheet
-  enough-sheet bytes h = rw (s .places) (le-ltb bytes _ h)
-
 module _ (arcs : List Arc) (start goal : ℕ) (few : length arcs ≤ maxArcs) (ok : Valid (plain arcs start goal)) where
-  right-goals : wrongGoals (plainRecords arcs start goal) ≡ false
-  unfolding plain wrongGoals rises
-  right-goals = rw (plain-states arcs start goal few ok .goals)
+  right-size : wrongSize (plainStated arcs start goal) ≡ false
+  unfolding wrongSize plainStated
+  right-size =
+      let arcs-fit : ltb maxArcs (length arcs) ≡ false = le-ltb maxArcs (length arcs) few in
+      let counted : eqb (length arcs) (length arcs) ≡ true = eq-eqb (length arcs) (length arcs) refl in
+      rw (length-map arcs flatLane, arcs-fit, counted)
+
+  inside-map : outsideMap (plainStated arcs start goal) ≡ false
+  unfolding outsideMap plainStated plain any
+  inside-map = or-none (any _ (map flatLane arcs)) false (any-none _ (map flatLane arcs) inside) refl
+    where
+      inside : (l : Lane) → List·Memᴰ l (map flatLane arcs) → leb maxPlaces (l .from) || leb maxPlaces (l .to) ≡ false
+      inside l i =
+          let (a, j, is) = Memᴰ·of-map flatLane arcs i in
+          rw (← is) (or-none (leb maxPlaces (a .from)) _ (lt-leb maxPlaces (a .from) (ok .arc-from a j)) (lt-leb maxPlaces (a .to) (ok .arc-to a j)))
+
+  no-free-arc : freeArc (plainStated arcs start goal) ≡ false
+  unfolding freeArc isFree plainStated plain
+  no-free-arc =
+      any-none _ (map flatLane arcs) λ l i.
+      let (a, j, is) = Memᴰ·of-map flatLane arcs i in
+      rw (← is) (ne-eqb (a .cost) 0 (λ e. omega (arith, ok .cost-above a j)))
+
+  no-bad-estimate : (largeEstimate (plainStated arcs start goal) ≡ false) × (twoEstimates (plainStated arcs start goal) ≡ false)
+  unfolding largeEstimate twoEstimates plainStated any repeats
+  no-bad-estimate = (refl, refl)
+
+  job-inside-map : jobOutsideMap (plainStated arcs start goal) ≡ false
+  unfolding jobOutsideMap plainStated plain any
+  job-inside-map =
+      let start-below : leb maxPlaces start ≡ false = lt-leb maxPlaces start (ok .start-below) in
+      let goal-below : leb maxPlaces goal ≡ false = lt-leb maxPlaces goal (ok .goal-below goal (List·Memᴰ·head refl)) in
+      rw (start-below, goal-below)
+
+  right-goals : (wrongGoals (plainStated arcs start goal) ≡ false) × (goalEstimate (plainStated arcs start goal) ≡ false)
+  unfolding wrongGoals goalEstimate plainStated rises lookup any
+  right-goals = (refl, refl)
+
+  enough-room : (words bytes : ℕ) → 16 * maxPlaces + 2 * length arcs ≤ words → 10 + 2 * maxPlaces ≤ bytes
+      → (shortWork (plainStated arcs start goal) words ≡ false) × (shortSheet (plainStated arcs start goal) bytes ≡ false)
+  unfolding shortWork shortSheet workWords plainStated
+  enough-room words bytes h k = (le-ltb words _ h, le-ltb bytes _ k)
 
   pub plain-accepted : (words bytes : ℕ) → 16 * maxPlaces + 2 * length arcs ≤ words → 10 + 2 * maxPlaces ≤ bytes
       → Accepted (plainJob arcs start goal) words bytes
-  unfolding plain broken
+  unfolding refusal rows inputRows formRows sizeRows mapRows jobRows roomRows firstThatHolds
   plain-accepted words bytes h k =
-      let rs : List Record = plainRecords arcs start goal in
-      let p : Problem = plain arcs start goal in
-      let s : States rs p = plain-states arcs start goal few ok in
-      let none : NoneHolds (record { records = rs; broken = false }) words bytes
-      = record {
-        no-1 = refl;
-        no-2 = known-kinds arcs start goal;
-        no-3 = right-lengths arcs start goal;
-        no-4 = right-head arcs start goal;
-        no-5 = right-size rs p s ok few;
-        no-6 = inside-map rs p s ok few;
-        no-7 = no-free-arc rs p s ok few;
-        no-8 = no-large-estimate rs p s ok few;
-        no-9 = no-two-estimates rs p s ok few;
-        no-10 = right-job arcs start goal;
-        no-11 = job-inside-map rs p s ok few;
-        no-12 = right-goals;
-        no-13 = no-goal-estimate rs p s ok few;
-        no-14 = enough-work rs p s ok few words h;
-        no-15 = enough-sheet rs p s ok few bytes k;
-      } in
-      rw (plain-framed arcs start goal) (none-refused _ words bytes none)
+      rw (
+        plain-framed arcs start goal,
+        plain-said arcs start goal few ok,
+        plain-stated arcs start goal few ok,
+        known-kinds arcs start goal,
+        right-lengths arcs start goal,
+        right-head arcs start goal,
+        right-size,
+        inside-map,
+        no-free-arc,
+        no-bad-estimate .0,
+        no-bad-estimate .1,
+        right-job arcs start goal,
+        job-inside-map,
+        right-goals .0,
+        right-goals .1,
+        enough-room words bytes h k .0,
+        enough-room words bytes h k .1,
+      )

@@ -1,37 +1,21 @@
 -- The job of a problem with 4,096 places, no estimates and one goal states that problem. Assumes nothing.
 use mathlib.Core.Path.{_≡_, refl, sym, ap, _∙_}
 use mathlib.Core.Bool.{false}
-use mathlib.Core.List.{List, [], _∷_, _++_, map, headD, append-nil, append-assoc, List·Memᴰ, List·Memᴰ·head, List·Memᴰ·tail, List·Memᴰ·not-nil}
+use mathlib.Core.List.{List, [], _∷_, _++_, map, headD, append-nil, append-assoc}
+use mathlib.Core.List.{List·Memᴰ, List·Memᴰ·head, List·Memᴰ·tail, List·Memᴰ·not-nil}
+use mathlib.Core.Option.{Option, none}
 use Prim.Native.Nat.{ℕ, _≤_, _<_}
 use native.Mathlib.Omega.{arith}
-use lib.Dec.{eqb}
-use lib.ListN.{length, length-map}
-use Rattle.model.specs.Lists.{consIf, filterMap}
+use lib.ListN.{length}
+use Rattle.model.specs.Lists.{filterMap, consIf}
 use Rattle.model.specs.Bytes.{Bytes, u16, u32, u16s, put16, put32, put16s}
 use Rattle.model.specs.Framing.{Record, frame, putRecord}
 use Rattle.model.specs.Limits.{maxPlaces, maxArcs}
 use Rattle.model.specs.Problem.{Problem, Arc, Valid}
-use Rattle.model.specs.Input.{
-  headKind,
-  arcKind,
-  estimateKind,
-  jobKind,
-  bodyIf,
-  bodies,
-  firstBody,
-  placesOf,
-  arcCountOf,
-  arcOf,
-  arcsOf,
-  estimatesOf,
-  lookup,
-  startOf,
-  allowanceOf,
-  goalsOf,
-  problemOf,
-}
+use Rattle.model.specs.Items.{headKind, arcKind, jobKind, Lane, flat, Item, head, lane, job, headOf, laneOf, jobOf, itemOf, items}
+use Rattle.model.specs.Items.{sizeIn, laneIn, estimateIn, jobIn}
+use Rattle.model.specs.Stated.{Stated, statedBy, stated, lookup, costUnder, arcUnder, problemOf}
 use Rattle.model.specs.Jobs.{putHead, putArc, putJob, ample}
-use Rattle.model.specs.Refusals.{countOf}
 use Rattle.model.proofs.Bytes.{two-bytes, append-bytes, put16-is-bytes, put32-is-bytes, put16s-is-bytes}
 use Rattle.model.proofs.Records.{putRecords, Fits, AllFit, putRecords-is-bytes, frame-records}
 
@@ -141,84 +125,99 @@ pub plain-framed : (arcs : List Arc) (start goal : ℕ)
 plain-framed arcs start goal =
     rw (← plainRecords-put arcs start goal) (frame-records (plainRecords arcs start goal) (plain-fit arcs start goal))
 
--- ---- The bodies of each kind
+-- ---- What they say
 
-module _ (kind : ℕ) (other : eqb arcKind kind ≡ false) where
-  withArcs-others : (arcs : List Arc) (rs : List Record) → bodies kind (withArcs arcs rs) ≡ bodies kind rs
-  unfolding withArcs bodies bodyIf filterMap consIf
-  withArcs-others [] rs = refl
-  withArcs-others (a ∷ arcs) rs = rw other (withArcs-others arcs rs)
+abbrev pub flatLane : Arc → Lane
+flatLane a = record { from = a .from; to = a .to; charge = flat (a .cost) }
 
-withArcs-arcs : (arcs : List Arc) (rs : List Record) → bodies arcKind (withArcs arcs rs) ≡ map arcBody arcs ++ bodies arcKind rs
-unfolding withArcs bodies bodyIf filterMap consIf
-withArcs-arcs [] rs = refl
-withArcs-arcs (a ∷ arcs) rs = ap {B = List (List ℕ)} (λ bs. arcBody a ∷ bs) (withArcs-arcs arcs rs)
+abbrev saidBy : Arc → Item
+saidBy a = lane (flatLane a)
 
-module _ (arcs : List Arc) (start goal : ℕ) where
-  pub head-bodies : bodies headKind (plainRecords arcs start goal) ≡ headBody (length arcs) ∷ []
-  unfolding plainRecords bodies bodyIf filterMap consIf
-  head-bodies = ap {B = List (List ℕ)} (λ bs. headBody (length arcs) ∷ bs) (withArcs-others headKind refl arcs (jobRecord start goal ∷ []))
+unfoldable pub plainItems : List Arc → ℕ → ℕ → List Item
+plainItems arcs start goal =
+    head (record { places = maxPlaces; arcs = length arcs })
+    ∷ (map saidBy arcs ++ (job (record { start = start; allowance = ample; goals = goal ∷ [] }) ∷ []))
 
-  pub arc-bodies : bodies arcKind (plainRecords arcs start goal) ≡ map arcBody arcs
-  unfolding plainRecords bodies bodyIf filterMap consIf
-  arc-bodies = withArcs-arcs arcs (jobRecord start goal ∷ []) ∙ append-nil (map arcBody arcs)
+unfoldable pub plainStated : List Arc → ℕ → ℕ → Stated
+plainStated arcs start goal =
+    record {
+      size = record { places = maxPlaces; arcs = length arcs };
+      lanes = map flatLane arcs;
+      estimates = [];
+      factors = [];
+      growth = 2;
+      job = record { start = start; allowance = ample; goals = goal ∷ [] };
+    }
 
-  pub estimate-bodies : bodies estimateKind (plainRecords arcs start goal) ≡ []
-  unfolding plainRecords bodies bodyIf filterMap consIf
-  estimate-bodies = withArcs-others estimateKind refl arcs (jobRecord start goal ∷ [])
+-- a test of items that the lanes do not pass
+module _ {A : Type 0} (f : Item → Option A) (none-of : (a : Arc) → f (saidBy a) ≡ none) where
+  pub lanes-give-none : (arcs : List Arc) (is : List Item) → filterMap f (map saidBy arcs ++ is) ≡ filterMap f is
+  unfolding filterMap consIf
+  lanes-give-none [] is = refl
+  lanes-give-none (a ∷ arcs) is = rw (none-of a) (lanes-give-none arcs is)
 
-  pub job-bodies : bodies jobKind (plainRecords arcs start goal) ≡ jobBody start goal ∷ []
-  unfolding plainRecords bodies bodyIf filterMap consIf
-  job-bodies = withArcs-others jobKind refl arcs (jobRecord start goal ∷ [])
+lanes-given : (arcs : List Arc) (is : List Item) → filterMap laneIn (map saidBy arcs ++ is) ≡ map flatLane arcs ++ filterMap laneIn is
+unfolding filterMap consIf laneIn
+lanes-given [] is = refl
+lanes-given (a ∷ arcs) is = ap {B = List Lane} (λ ls. flatLane a ∷ ls) (lanes-given arcs is)
+
+pub plain-states : (arcs : List Arc) (start goal : ℕ) → statedBy (plainItems arcs start goal) ≡ plainStated arcs start goal
+unfolding plainItems plainStated statedBy filterMap consIf sizeIn laneIn estimateIn jobIn headD
+plain-states arcs start goal =
+    let last : List Item = job (record { start = start; allowance = ample; goals = goal ∷ [] }) ∷ [] in
+    let jobs = lanes-give-none jobIn (λ a. refl) arcs last in
+    let estimates = lanes-give-none estimateIn (λ a. refl) arcs last in
+    let lanes = lanes-given arcs last ∙ append-nil (map flatLane arcs) in
+    λ i. record {
+      size = record { places = maxPlaces; arcs = length arcs };
+      lanes = lanes i;
+      estimates = estimates i;
+      factors = [];
+      growth = 2;
+      job = headD (jobs i) (record { start = 0; allowance = 0; goals = [] });
+    }
+
+arcs-back : (arcs : List Arc) → map (arcUnder []) (map flatLane arcs) ≡ arcs
+unfolding arcUnder costUnder
+arcs-back [] = refl
+arcs-back (a ∷ arcs) = ap {B = List Arc} (λ bs. a ∷ bs) (arcs-back arcs)
+
+pub plain-problem : (arcs : List Arc) (start goal : ℕ) → problemOf (plainStated arcs start goal) ≡ plain arcs start goal
+unfolding plain problemOf plainStated lookup
+plain-problem arcs start goal = rw (arcs-back arcs)
 
 -- ---- The fields are read back
 
-arcs-read : (arcs : List Arc) → ((a : Arc) → List·Memᴰ a arcs → (a .from < 65536) × (a .to < 65536) × (a .cost < 65536))
-    → map arcOf (map arcBody arcs) ≡ arcs
-unfolding arcOf u16 put16
-arcs-read [] below = refl
-arcs-read (a ∷ arcs) below =
-    let b = below a (List·Memᴰ·head refl) in
-    let from-read = two-bytes (a .from) (b .0) in
-    let to-read = two-bytes (a .to) (b .1) in
-    let cost-read = two-bytes (a .cost) (b .2) in
-    let rest = arcs-read arcs (λ e j. below e (List·Memᴰ·tail j)) in
-    λ i. record { from = from-read i; to = to-read i; cost = cost-read i } ∷ rest i
-
--- the records state the problem
-pub record States (rs : List Record) (p : Problem) : Type 0 where
-  pub places : placesOf rs ≡ p .places
-  pub arc-count : arcCountOf rs ≡ length (p .arcs)
-  pub arc-records : countOf arcKind rs ≡ length (p .arcs)
-  pub arcs : arcsOf rs ≡ p .arcs
-  pub no-estimates : estimatesOf rs ≡ []
-  pub start : startOf rs ≡ p .start
-  pub goals : goalsOf rs ≡ p .goals
-  pub allowance : allowanceOf rs ≡ ample
+lane-read : (a : Arc) → a .from < 65536 → a .to < 65536 → a .cost < 65536 → laneOf (arcBody a) ≡ flatLane a
+unfolding laneOf u16 put16
+lane-read a f t c = rw (two-bytes (a .from) f, two-bytes (a .to) t, two-bytes (a .cost) c)
 
 module _ (arcs : List Arc) (start goal : ℕ) (few : length arcs ≤ maxArcs) (ok : Valid (plain arcs start goal)) where
-  pub plain-states : States (plainRecords arcs start goal) (plain arcs start goal)
-  unfolding plain placesOf arcCountOf arcsOf estimatesOf startOf goalsOf allowanceOf firstBody headD u16 u32 u16s put16 put32 put16s
-  plain-states =
-      record {
-        places = rw (head-bodies arcs start goal);
-        arc-count = rw (head-bodies arcs start goal) (two-bytes (length arcs) (omega arith));
-        arc-records = rw (arc-bodies arcs start goal) (length-map arcs arcBody);
-        arcs = rw (arc-bodies arcs start goal) (arcs-read arcs below);
-        no-estimates = rw (estimate-bodies arcs start goal);
-        start = rw (job-bodies arcs start goal) (two-bytes start (omega (arith, ok .start-below)));
-        goals = rw (job-bodies arcs start goal) (ap (λ (g : ℕ). g ∷ []) (two-bytes goal goal-below));
-        allowance = rw (job-bodies arcs start goal);
-      }
-    where
-      below : (a : Arc) → List·Memᴰ a arcs → (a .from < 65536) × (a .to < 65536) × (a .cost < 65536)
-      below a i = omega (arith, ok .arc-from a i, ok .arc-to a i, ok .cost-below a i)
+  arcs-said : (bs : List Arc) → ((a : Arc) → List·Memᴰ a bs → List·Memᴰ a arcs) → (rs : List Record)
+      → items (withArcs bs rs) ≡ map saidBy bs ++ items rs
+  unfolding plain items itemOf withArcs
+  arcs-said [] in-arcs rs = refl
+  arcs-said (a ∷ bs) in-arcs rs =
+      let i = in-arcs a (List·Memᴰ·head refl) in
+      let read = lane-read a (omega (arith, ok .arc-from a i)) (omega (arith, ok .arc-to a i)) (omega (arith, ok .cost-below a i)) in
+      rw read (ap {B = List Item} (λ is. saidBy a ∷ is) (arcs-said bs (λ c j. in-arcs c (List·Memᴰ·tail j)) rs))
 
-      goal-below : goal < 65536
-      goal-below = omega (arith, ok .goal-below goal (List·Memᴰ·head refl))
+  job-read : jobOf (jobBody start goal) ≡ record { start = start; allowance = ample; goals = goal ∷ [] }
+  unfolding plain jobOf u16 u32 u16s put16 put32 put16s
+  job-read =
+      let goal-below : goal < 65536 = omega (arith, ok .goal-below goal (List·Memᴰ·head refl)) in
+      rw (two-bytes start (omega (arith, ok .start-below)), two-bytes goal goal-below)
 
-  pub plain-problem : problemOf (plainRecords arcs start goal) ≡ plain arcs start goal
-  unfolding plain problemOf lookup
-  plain-problem =
-      let s = plain-states in
-      rw (s .places, s .arcs, s .no-estimates, s .start, s .goals)
+  head-read : headOf (headBody (length arcs)) ≡ record { places = maxPlaces; arcs = length arcs }
+  unfolding headOf u16 put16
+  head-read = rw (two-bytes (length arcs) (omega arith))
+
+  pub plain-said : items (plainRecords arcs start goal) ≡ plainItems arcs start goal
+  unfolding plainRecords plainItems items itemOf
+  plain-said =
+      let said = arcs-said arcs (λ a i. i) (jobRecord start goal ∷ []) in
+      rw (head-read) (ap {B = List Item} (λ is. head (record { places = maxPlaces; arcs = length arcs }) ∷ is) (said ∙ rw job-read))
+
+  pub plain-stated : stated (plainRecords arcs start goal) ≡ plainStated arcs start goal
+  unfolding stated
+  plain-stated = rw plain-said (plain-states arcs start goal)

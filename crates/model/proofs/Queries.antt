@@ -24,7 +24,7 @@ pub record Crosses (p : Problem) (t : Table) (a : Arc) (d : ℕ) : Type 0 where
   pub outside : costAt t (a .to) ≡ none
 
 -- x is the least D + arc cost + estimate over the arcs that cross
-pub record IsNextLimit (p : Problem) (t : Table) (x : ℕ) : Type 0 where
+pub record IsLeastCrossing (p : Problem) (t : Table) (x : ℕ) : Type 0 where
   pub arc : Arc
   pub cost : ℕ
   pub crosses : Crosses p t arc cost
@@ -32,14 +32,14 @@ pub record IsNextLimit (p : Problem) (t : Table) (x : ℕ) : Type 0 where
   pub least : (a : Arc) (d : ℕ) → Crosses p t a d → x ≤ d + a .cost + p .estimate (a .to)
 
 -- what each outcome says of the first goal, the next limit, the budget and the length
-abbrev Says : Option Key → Option ℕ → ℕ → ℕ → Outcome → Type 0
-Says goal next b n (ended x) = (goal ≡ none) × (next ≡ some x)
-Says goal next b n over = b < n
-Says goal next b n found = (g : Key) × (goal ≡ some g)
-Says goal next b n nothing = (goal ≡ none) × (next ≡ none)
+abbrev OutcomeSays : Option Key → Option ℕ → ℕ → ℕ → Outcome → Type 0
+OutcomeSays goal next b n (ended x) = (goal ≡ none) × (next ≡ some x)
+OutcomeSays goal next b n over = b < n
+OutcomeSays goal next b n found = (g : Key) × (goal ≡ some g)
+OutcomeSays goal next b n nothing = (goal ≡ none) × (next ≡ none)
 
 judge-says : (exceeds : Bool) (goal : Option Key) (next : Option ℕ) (b n : ℕ) → ltb b n ≡ exceeds
-    → Says goal next b n (judge exceeds b n (notOver goal next) .outcome)
+    → OutcomeSays goal next b n (judge exceeds b n (notOver goal next) .outcome)
 unfolding judge notOver
 judge-says true goal next b n e = ltb-true b n e
 judge-says false (some g) next b n e = (g, refl)
@@ -72,7 +72,7 @@ module _ (p : Problem) where
   unfolding crossing
   crossing-member t a d c = filterMap-member _ (p .arcs) (sum a d) .1 (a, c .is-arc, rw (c .inside, c .outside))
 
-  pub next-limit-some : (t : Table) (x : ℕ) → nextLimit p t ≡ some x → IsNextLimit p t x
+  pub next-limit-some : (t : Table) (x : ℕ) → nextLimit p t ≡ some x → IsLeastCrossing p t x
   unfolding nextLimit
   next-limit-some t x e =
       let least = least-some (crossings t) x e in
@@ -91,7 +91,7 @@ module _ (p : Problem) where
   next-limit-none t e a d c = least-none (crossings t) e (sum a d) (crossing-member t a d c)
 
   module _ (C b : ℕ) where
-    outcome-says : Says (firstGoal p (table p C)) (nextLimit p (table p C)) b (queryLength p C) (query p C b .outcome)
+    outcome-says : OutcomeSays (firstGoal p (table p C)) (nextLimit p (table p C)) b (queryLength p C) (query p C b .outcome)
     unfolding query queryOn
     outcome-says = judge-says (ltb b (queryLength p C)) (firstGoal p (table p C)) (nextLimit p (table p C)) b (queryLength p C) refl
 

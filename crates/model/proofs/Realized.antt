@@ -1,26 +1,28 @@
 -- Every byte string that the reader accepts is the sheet of some accepted job. Assumes nothing.
-use mathlib.Core.Path.{_≡_, refl, sym, ap, ap₂, subst⁻¹, _∙_}
+use mathlib.Core.Path.{_≡_, refl, sym, ap, ap₂, subst, subst⁻¹, _∙_}
 use mathlib.Core.Bool.{Bool, true, false, cond}
 use mathlib.Core.List.{List, [], _∷_}
 use Prim.Native.Nat.{ℕ, suc, _+_, _*_, _≤_, _<_}
-use native.Mathlib.Nat.{le-of-eq}
+use native.Mathlib.Nat.{le-of-eq, le-trans}
 use native.Mathlib.Omega.{arith}
 use lib.Dec.{eqb}
 use lib.ListN.{length, getD, replicate, length-replicate}
 use borrow.Author.Tests.{eqb-true, eqb-false}
 use Rattle.model.specs.Bytes.{Bytes, put16}
-use Rattle.model.specs.Framing.{putRecord}
+use Rattle.model.specs.Framing.{frame, putRecord}
+use Rattle.model.specs.Stated.{Stated, stated, problemOf}
 use Rattle.model.specs.Paths.{GoalReachable, Route, Admissible}
-use Rattle.model.specs.Rounds.{trace, total}
+use Rattle.model.specs.Rounds.{trace, total, neverSpent}
 use Rattle.model.specs.Limits.{maxPlaces, maxArcs}
 use Rattle.model.specs.Problem.{Problem, Arc, Valid}
 use Rattle.model.specs.Sheets.{routeSheet, noRouteSheet, readSheet}
 use Rattle.model.specs.Jobs.{routeJob, noRouteJob, ample, putHead}
 use Rattle.model.proofs.Sheets.{Possible, accepted-route, accepted-no-route}
-use Rattle.model.proofs.Laws.{total-at-most-2}
+use Rattle.model.proofs.Total.{total-at-most, never-spent-at-2}
 use Rattle.model.specs.Calls.{Call, IsAccepted, written, result, problem, allowance, Defined, Writes}
-use Rattle.model.proofs.Promises.{FindsRoute, ends, route-if-reachable, none-if-unreachable, spent-by-number}
-use Rattle.model.proofs.PlainJobs.{plain, putArcs, plainJob, plain-bytes, plain-framed, plain-states, plain-problem}
+use Rattle.model.proofs.Promises.{comes, ends, valid, route-if-reachable, none-if-unreachable, spent-by-number, never-spent}
+use Rattle.model.proofs.Promises.{none-answer, none-sheet-is, route-answer, route-sheet-is, placesOf, first-cheapest}
+use Rattle.model.proofs.PlainJobs.{plain, putArcs, plainJob, plain-bytes, plain-framed, plainStated, plain-stated, plain-problem}
 use Rattle.model.proofs.PlainAccepted.{plain-accepted}
 use Rattle.model.proofs.Chains.{
   headD-getD,
@@ -58,22 +60,24 @@ module _ (input : List ℕ) (arcs : List Arc) (start goal : ℕ) (is : input ≡
       let bytes = le-of-eq (sym (length-replicate {A = ℕ} (10 + 2 * maxPlaces) 0)) in
       rw is (plain-accepted arcs start goal few ok _ _ words bytes)
 
+  call-stated : stated (frame input .records) ≡ plainStated arcs start goal
+  call-stated = rw (is, plain-framed arcs start goal) (plain-stated arcs start goal few ok)
+
   call-problem : problem plainCall ≡ plain arcs start goal
   unfolding plainCall callOn
-  call-problem = rw (is, plain-framed arcs start goal) (plain-problem arcs start goal few ok)
+  call-problem = ap problemOf call-stated ∙ plain-problem arcs start goal
 
   call-allowance : allowance plainCall ≡ ample
-  unfolding plainCall callOn
-  call-allowance = rw (is, plain-framed arcs start goal) (plain-states arcs start goal few ok .allowance)
+  unfolding plainCall callOn plainStated
+  call-allowance = ap (λ (s : Stated). s .job .allowance) call-stated
 
-  -- 236 for each place lasts
+  -- the allowance is never spent
+  call-ample : neverSpent (problem plainCall) ≤ allowance plainCall
+  unfolding plain
+  call-ample = rw (call-problem, call-allowance) (omega (arith, never-spent-at-2 (plain arcs start goal) refl))
+
   call-lasts : total (trace (problem plainCall)) ≤ allowance plainCall
-  unfolding plain
-  call-lasts = rw (call-problem, call-allowance) (total-at-most-2 (plain arcs start goal) ok refl)
-
-  call-ample : 236 * problem plainCall .places ≤ allowance plainCall
-  unfolding plain
-  call-ample = rw (call-problem, call-allowance) (omega arith)
+  call-lasts = le-trans (total-at-most (problem plainCall) (valid plainCall call-accepted)) call-ample
 
   call-writes : {n : ℕ} {b : List ℕ} → result plainCall .answer .number ≡ n → written (result plainCall) ≡ b → Writes Defined input n b
   unfolding plainCall callOn
@@ -88,6 +92,9 @@ module _ (input : List ℕ) (arcs : List Arc) (start goal : ℕ) (is : input ≡
         on-sheet = on-sheet;
       }
 
+  in-plain : (c : ℕ) (r : List ℕ) → Route (problem plainCall) c r → Route (plain arcs start goal) c r
+  in-plain c r = subst (λ (p : Problem). Route p c r) call-problem
+
   -- where every route is the same one, it is the one on the sheet
   only-route-written : (cost : ℕ) (r : List ℕ) → GoalReachable (plain arcs start goal)
       → ((c : ℕ) (s : List ℕ) → Route (plain arcs start goal) c s → (c ≡ cost) × (s ≡ r)) → Writes Defined input 0 (routeSheet cost r)
@@ -95,22 +102,23 @@ module _ (input : List ℕ) (arcs : List Arc) (start goal : ℕ) (is : input ≡
   only-route-written cost r reachable only =
       let admissible : Admissible (problem plainCall) = rw call-problem (plain-admissible arcs start goal) in
       let some : GoalReachable (problem plainCall) = rw call-problem reachable in
-      from-sheet admissible (route-if-reachable (ends plainCall call-accepted) call-lasts some)
-    where
-      from-sheet : Admissible (problem plainCall) → FindsRoute (problem plainCall) (allowance plainCall) (result plainCall) → Writes Defined input 0 (routeSheet cost r)
-      from-sheet admissible sheet =
-          let same = only (result plainCall .answer .cost) (sheet .places) (rw call-problem at (sheet .first-cheapest admissible .first .member)) in
-          call-writes (sheet .number) (sheet .on-sheet ∙ ap₂ routeSheet (same .0) (same .1))
+      let k = comes plainCall call-accepted in
+      let f = route-if-reachable (ends plainCall call-accepted) call-lasts some in
+      let first = first-cheapest k (valid plainCall call-accepted) admissible f in
+      let same = only (result plainCall .answer .cost) (placesOf k f) (in-plain _ _ (first .first .member)) in
+      call-writes (rw (route-answer k f)) (route-sheet-is k f ∙ ap₂ routeSheet (same .0) (same .1))
 
   unreachable-written : (GoalReachable (plain arcs start goal) → ⊥) → Writes Defined input 17 (noRouteSheet start)
   unfolding plain plainCall callOn
   unreachable-written unreachable =
+      let k = comes plainCall call-accepted in
       let e = ends plainCall call-accepted in
       let none : GoalReachable (problem plainCall) → ⊥ = rw call-problem unreachable in
-      let unspent : result plainCall .answer .number ≡ 16 → ⊥ = λ n. let s = spent-by-number e n in let enough = call-ample in omega arith in
+      let unspent : result plainCall .answer .number ≡ 16 → ⊥ =
+      λ n. never-spent (valid plainCall call-accepted) call-ample (spent-by-number k e n) in
       let started : problem plainCall .start ≡ start = ap (λ (p : Problem). p .start) call-problem in
-      let found = none-if-unreachable e unspent none in
-      call-writes (found .number) (found .on-sheet ∙ ap noRouteSheet started)
+      let found = none-if-unreachable k e unspent none in
+      call-writes (rw (none-answer k found)) (none-sheet-is k found ∙ ap noRouteSheet started)
 
 -- the job of a route is that of its chain
 route-job : (cost : ℕ) (places : List ℕ) → Possible cost places

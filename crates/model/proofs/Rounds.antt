@@ -12,12 +12,12 @@ use lib.Dec.{eqb}
 use borrow.Author.Tests.{eqb-false}
 use Rattle.model.specs.Limits.{maxEstimate}
 use Rattle.model.specs.Problem.{Problem, Valid}
-use Rattle.model.specs.Costs.{Table, table}
+use Rattle.model.specs.Costs.{Table, costAt, table}
 use Rattle.model.specs.Query.{Outcome, ended, over, found, nothing, queryOn, query}
 use Rattle.model.specs.Rounds.{Round, Step, firstRound, limitOf, closeIf, settle, after, ask, next, goOn, traceUpTo, enough, trace}
-use Rattle.model.specs.Terms.{Kept, Final, Finished, LowNeverFalls}
+use Rattle.model.specs.Terms.{RoundKept, Final, Finished, LowNeverFalls}
 use Rattle.model.proofs.Lists.{none-some}
-use Rattle.model.proofs.LeastCosts.{table-length}
+use Rattle.model.proofs.LeastCosts.{table-length, start-within}
 use Rattle.model.proofs.Keys.{within-length}
 use Rattle.model.proofs.Queries.{ended-next, over-exceeds}
 use Rattle.model.proofs.Crossing.{next-above-limit, same-below-next, next-at-most}
@@ -81,7 +81,7 @@ low-rises p (suc k) r s h f = (h, f)
 abbrev pub round : ℕ → Option ℕ → ℕ → Round
 round low high b = record { low = low; high = high; budget = b }
 
-kept-unset : (p : Problem) (low b : ℕ) → p .estimate (p .start) ≤ low → 1 ≤ b → Kept p (round low none b)
+kept-unset : (p : Problem) (low b : ℕ) → p .estimate (p .start) ≤ low → 1 ≤ b → RoundKept p (round low none b)
 kept-unset p low b l one = record { start-low = l; some-budget = one; high-above = λ h e. none-some e; high-over = λ h e. none-some e }
 
 -- low and high fit
@@ -102,12 +102,12 @@ abbrev weight : Problem → Round → ℕ
 weight p r = (p .places - r .budget) * 2 ^ 30 + room (r .low) (r .high)
 
 module _ (p : Problem) (ok : Valid p) where
-  pub kept-first : Kept p (firstRound p)
+  pub kept-first : RoundKept p (firstRound p)
   unfolding firstRound
   kept-first = kept-unset p (p .estimate (p .start)) 1 (omega arith) (omega arith)
 
   -- the limit is at least low
-  pub low-limit : (r : Round) → Kept p r → r .low ≤ limitOf (r .low) (r .high)
+  pub low-limit : (r : Round) → RoundKept p r → r .low ≤ limitOf (r .low) (r .high)
   unfolding limitOf
   low-limit r k = go (r .high) refl
     where
@@ -139,13 +139,13 @@ module _ (p : Problem) (ok : Valid p) where
 
   -- what holds of the round that follows a kept one
   record Follows (r s : Round) : Type 0 where
-    kept : Kept p s
+    kept : RoundKept p s
     rises : r .low ≤ s .low
     small : Small r → Small s
     lighter : Small r → weight p s < weight p r
 
   -- the round closes, and the query at high was over, so b is below N
-  closes : (r : Round) (low : ℕ) → Kept p r → r .low ≤ low → r .budget < p .places
+  closes : (r : Round) (low : ℕ) → RoundKept p r → r .low ≤ low → r .budget < p .places
       → (Small r → (low < 2 ^ 29) × (1 ≤ room (r .low) (r .high))) → Follows r (round low none (p .growth * r .budget))
   closes r low k rises few bounds =
       let grown : 2 * r .budget ≤ p .growth * r .budget = mul-le-mul-right (r .budget) (ok .grows) in
@@ -157,7 +157,7 @@ module _ (p : Problem) (ok : Valid p) where
       }
 
   -- low and high have moved towards each other, and the round closes where they meet
-  settles : (r : Round) (low high : ℕ) → Kept p r → r .low ≤ low → low ≤ high → query p high (r .budget) .outcome ≡ over
+  settles : (r : Round) (low high : ℕ) → RoundKept p r → r .low ≤ low → low ≤ high → query p high (r .budget) .outcome ≡ over
       → (Small r → (low < 2 ^ 29) × (high < 2 ^ 30) × (high - low < room (r .low) (r .high)))
       → Follows r (settle (p .growth) low (some high) (r .budget))
   unfolding settle closeIf
@@ -179,7 +179,7 @@ module _ (p : Problem) (ok : Valid p) where
             lighter = λ m. omega (arith, bounds m);
           }
 
-  after-ended : (low : ℕ) (high : Option ℕ) (b x : ℕ) → Kept p (round low high b) → query p (limitOf low high) b .outcome ≡ ended x
+  after-ended : (low : ℕ) (high : Option ℕ) (b x : ℕ) → RoundKept p (round low high b) → query p (limitOf low high) b .outcome ≡ ended x
       → Follows (round low high b) (settle (p .growth) x high b)
   unfolding limitOf settle
   after-ended low none b x k e =
@@ -200,7 +200,7 @@ module _ (p : Problem) (ok : Valid p) where
       let at-most : x ≤ h = ended-at-most-over C h b x e exceeded (omega arith) in
       settles (round low (some h) b) x h k (omega arith) at-most exceeded (λ m. (below, m .high-small h refl, omega arith))
 
-  after-over : (low : ℕ) (high : Option ℕ) (b : ℕ) → Kept p (round low high b) → query p (limitOf low high) b .outcome ≡ over
+  after-over : (low : ℕ) (high : Option ℕ) (b : ℕ) → RoundKept p (round low high b) → query p (limitOf low high) b .outcome ≡ over
       → Follows (round low high b) (settle (p .growth) low (some (limitOf low high)) b)
   unfolding limitOf
   after-over low none b k e = settles (round low none b) low (2 * low) k (omega arith) (omega arith) e (λ m. omega arith)
@@ -208,7 +208,7 @@ module _ (p : Problem) (ok : Valid p) where
       let ordered : low < h = k .high-above h refl in
       settles (round low (some h) b) low ((low + h) / 2) k (omega arith) (omega arith) e (λ m. omega (arith, m .high-small h refl))
 
-  follows : (r s : Round) → Kept p r → next p (ask p r) ≡ some s → Follows r s
+  follows : (r s : Round) → RoundKept p r → next p (ask p r) ≡ some s → Follows r s
   unfolding ask next after
   follows r s k e = go (query p C (r .budget) .outcome) refl e
     where
@@ -221,20 +221,20 @@ module _ (p : Problem) (ok : Valid p) where
       go found o e = none-some e
       go nothing o e = none-some e
 
-  pub kept-next : (r s : Round) → Kept p r → next p (ask p r) ≡ some s → Kept p s
+  pub kept-next : (r s : Round) → RoundKept p r → next p (ask p r) ≡ some s → RoundKept p s
   kept-next r s k e = follows r s k e .kept
 
-  pub rounds-kept : (s : Step) → List·Memᴰ s (trace p) → Kept p (s .round)
-  rounds-kept s i = along p (Kept p) kept-first kept-next s i
+  pub rounds-kept : (s : Step) → List·Memᴰ s (trace p) → RoundKept p (s .round)
+  rounds-kept s i = along p (RoundKept p) kept-first kept-next s i
 
   small-first : Small (firstRound p)
   unfolding firstRound
   small-first = small-unset (p .estimate (p .start)) 1 (omega (arith, ok .estimate-below (p .start)))
 
   rounds-small : (s : Step) → List·Memᴰ s (trace p) → Small (s .round)
-  rounds-small s i = along p (λ r. Kept p r × Small r) (kept-first, small-first) step s i .1
+  rounds-small s i = along p (λ r. RoundKept p r × Small r) (kept-first, small-first) step s i .1
     where
-      step : (r t : Round) → Kept p r × Small r → next p (ask p r) ≡ some t → Kept p t × Small t
+      step : (r t : Round) → RoundKept p r × Small r → next p (ask p r) ≡ some t → RoundKept p t × Small t
       step r t h e = let f = follows r t (h .0) e in (f .kept, f .small (h .1))
 
   pub low-below : (s : Step) → List·Memᴰ s (trace p) → s .round .low < 2 ^ 29
@@ -251,12 +251,20 @@ module _ (p : Problem) (ok : Valid p) where
       go none e = omega (arith, small .low-small)
       go (some h) e = omega (arith, small .low-small, small .high-small h e)
 
-  finishes : (k : ℕ) (r : Round) → Kept p r → Small r → weight p r < k → Finished (traceUpTo k p r)
+  -- so the start is within every limit that the rounds ask
+  pub start-within-asked : (s : Step) → List·Memᴰ s (trace p) → costAt (table p (s .limit)) (p .start) ≡ some 0
+  unfolding ask
+  start-within-asked s i =
+      let kept = rounds-kept s i in
+      let limit = ap (λ (x : Step). x .limit) (asked p s i) in
+      start-within p ok (s .limit) (omega (arith, low-limit (s .round) kept, kept .start-low))
+
+  finishes : (k : ℕ) (r : Round) → RoundKept p r → Small r → weight p r < k → Finished (traceUpTo k p r)
   unfolding traceUpTo goOn Finished ask next
   finishes zero r g m h = absurd (omega arith)
   finishes (suc k) r g m h = go (next p (ask p r)) refl (finishes k)
     where
-      go : (o : Option Round) → next p (ask p r) ≡ o → ((s : Round) → Kept p s → Small s → weight p s < k → Finished (traceUpTo k p s))
+      go : (o : Option Round) → next p (ask p r) ≡ o → ((s : Round) → RoundKept p s → Small s → weight p s < k → Finished (traceUpTo k p s))
           → Finished (ask p r ∷ goOn o (traceUpTo k p))
       go none e rest = final-stops (p .growth) r (ask p r .limit) (ask p r .query .outcome) e
       go (some s) e rest =
@@ -271,12 +279,12 @@ module _ (p : Problem) (ok : Valid p) where
       light : weight p (firstRound p) < enough
       light = omega (arith, ok .few-places)
 
-  never-falls : (k : ℕ) (r : Round) → Kept p r → LowNeverFalls (traceUpTo k p r)
+  never-falls : (k : ℕ) (r : Round) → RoundKept p r → LowNeverFalls (traceUpTo k p r)
   unfolding traceUpTo goOn LowNeverFalls ask
   never-falls zero r g = tt
   never-falls (suc k) r g = go (next p (ask p r)) refl (never-falls k)
     where
-      go : (o : Option Round) → next p (ask p r) ≡ o → ((s : Round) → Kept p s → LowNeverFalls (traceUpTo k p s))
+      go : (o : Option Round) → next p (ask p r) ≡ o → ((s : Round) → RoundKept p s → LowNeverFalls (traceUpTo k p s))
           → LowNeverFalls (ask p r ∷ goOn o (traceUpTo k p))
       go none e rest = tt
       go (some s) e rest = let f = follows r s g e in low-rises p k r s (f .rises) (rest s (f .kept))

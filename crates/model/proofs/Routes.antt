@@ -85,14 +85,14 @@ not-after-unsnoc : (l m : List ℕ) (a b : ℕ) → NotAfter (l ++ (a ∷ [])) (
 not-after-unsnoc l m a b h same x y read u v e f =
     h x y (read ++ (a ∷ [])) u v (cc (append-assoc x (u ∷ read) (a ∷ []))) (cc (append-assoc y (v ∷ read) (a ∷ [])))
 
-abbrev Ends : List ℕ → ℕ → Type 0
-Ends r a = (x : List ℕ) × (r ≡ x ++ (a ∷ []))
+abbrev EndsIn : List ℕ → ℕ → Type 0
+EndsIn r a = (x : List ℕ) × (r ≡ x ++ (a ∷ []))
 
-not-after-ends : (r s : List ℕ) (a b : ℕ) → Ends r a → Ends s b → a ≤ b → (a ≡ b → NotAfter r s) → NotAfter r s
+not-after-ends : (r s : List ℕ) (a b : ℕ) → EndsIn r a → EndsIn s b → a ≤ b → (a ≡ b → NotAfter r s) → NotAfter r s
 not-after-ends r s a b i j h same =
     rw (i .1, j .1) (not-after-snoc (i .0) (j .0) a b h (λ k. not-after-unsnoc (i .0) (j .0) a b (rw (i .1, j .1) at (same k)) k))
 
-last-not-after : (s : List ℕ) (a : ℕ) → Ends s a → NotAfter (a ∷ []) s
+last-not-after : (s : List ℕ) (a : ℕ) → EndsIn s a → NotAfter (a ∷ []) s
 last-not-after s a j = rw (j .1) (not-after-snoc [] (j .0) a a (le-refl a) (λ k. nothing-not-after [] (j .0) (inl refl)))
 
 -- two lists that are not after one another agree from the back as far as both go
@@ -116,7 +116,7 @@ unfolding places
 places-begin stay = ([], refl)
 places-begin (on a i w) = let before = places-begin w in (before .0 ++ (a .to ∷ []), ap (λ (l : List ℕ). l ++ (a .to ∷ [])) (before .1))
 
-places-end : {p : Problem} {u v d : ℕ} (w : Walk p u v d) → Ends (places w) v
+places-end : {p : Problem} {u v d : ℕ} (w : Walk p u v d) → EndsIn (places w) v
 unfolding places
 places-end stay = ([], refl)
 places-end (on a i w) = (places w, refl)
@@ -167,12 +167,12 @@ module _ (p : Problem) (C v d : ℕ) (e : costAt (table p C) v ≡ some d) where
       let (b, entry, sum, ends, from) = parentBy-some a v (costAt (table p C) (a .from)) (costAt (table p C) v) u q in
       (record { arc = a; is-arc = i; ends = ends; before = b; entry = entry; sum = cc }, from)
 
-route-up-to-ends : (k : ℕ) (p : Problem) (t : Table) (v : ℕ) → Ends (routeUpTo k p t v) v
+route-up-to-ends : (k : ℕ) (p : Problem) (t : Table) (v : ℕ) → EndsIn (routeUpTo k p t v) v
 unfolding routeUpTo extend
 route-up-to-ends zero p t v = ([], refl)
 route-up-to-ends (suc k) p t v = go (parent p t v)
   where
-    go : (o : Option ℕ) → Ends (extend v o (routeUpTo k p t)) v
+    go : (o : Option ℕ) → EndsIn (extend v o (routeUpTo k p t)) v
     go none = ([], refl)
     go (some u) = (routeUpTo k p t u, refl)
 

@@ -1,4 +1,5 @@
--- Document 01, "Runs by hand": P1 to P10 as rows of one table, and the table as one theorem, computed from the definitions; then runs with several goals.
+-- Document 01, "Runs by hand": P1 to P10 as rows of one table, and the table as one theorem, computed from the definitions; then runs with
+-- several goals.
 use mathlib.Core.Path.{_≡_, refl}
 use mathlib.Core.Bool.{Bool, true, false, _&&_}
 use mathlib.Core.List.{List, [], _∷_, _++_}
@@ -56,7 +57,7 @@ detour : List ℕ
 detour = putHead 4 3 ++ putArc 0 1 5 ++ putArc 0 2 1 ++ putArc 2 3 1
 
 -- One run: the input, the lengths of the lent areas, and what the call comes to: the seven numbers, how many words are 0, the sheet's bytes.
-pub record Run : Type 0 where
+pub record Case : Type 0 where
   pub input : List ℕ
   pub words : ℕ
   pub bytes : ℕ
@@ -78,20 +79,20 @@ unfoldable pub over : List ℕ → ℕ → ℕ → List ℕ
 over new x size = new ++ replicate (size - length new) x
 
 -- Both whole areas are compared. They are lent full of other numbers than any that the call writes.
-unfoldable pub agrees : Run → Bool
+unfoldable pub agrees : Case → Bool
 agrees r =
     let w = route (r .input) (replicate (r .words) 7) (replicate (r .bytes) 9) in
     same (seven (w .answer)) (r .numbers)
     && same (w .work) (over (replicate (r .zeros) 0) 7 (r .words))
     && same (w .sheet) (over (r .sheet) 9 (r .bytes))
 
-unfoldable pub agree : List Run → Bool
+unfoldable pub agree : List Case → Bool
 agree [] = true
 agree (r ∷ rs) = agrees r && agree rs
 
 -- on 200 words and 50 bytes
-unfoldable pub run : (input numbers : List ℕ) (zeros : ℕ) (sheet : List ℕ) → Run
-run input numbers zeros sheet = record { input = input; words = 200; bytes = 50; numbers = numbers; zeros = zeros; sheet = sheet }
+unfoldable pub case : (input numbers : List ℕ) (zeros : ℕ) (sheet : List ℕ) → Case
+case input numbers zeros sheet = record { input = input; words = 200; bytes = 50; numbers = numbers; zeros = zeros; sheet = sheet }
 
 numbers : (number cost limit floor expansions queries bytes : ℕ) → List ℕ
 numbers n c l f e q b = n ∷ c ∷ l ∷ f ∷ e ∷ q ∷ b ∷ []
@@ -119,31 +120,31 @@ sheet10 =
 
 -- Document 01 states the first six numbers of P1 to P9, the places, and the sheets of P7 to P9. Bytes is the sheet's length; the other numbers
 -- of P10, and those of the runs with several goals below, are those of tests/reference.py.
-runs : List Run
+runs : List Case
 runs =
     -- P1 to P4: map A under four allowances
-    run (mapA 4 ++ putJob 0 944 (3 ∷ [])) (numbers 0 5 10 0 16 10 18) 72 sheetA
-    ∷ run (mapA 4 ++ putJob 0 16 (3 ∷ [])) (numbers 0 5 10 0 16 10 18) 72 sheetA
-    ∷ run (mapA 4 ++ putJob 0 15 (3 ∷ [])) (numbers 16 0 0 5 15 10 0) 72 []
-    ∷ run (mapA 4 ++ putJob 0 0 (3 ∷ [])) (numbers 16 0 0 0 0 1 0) 72 []
+    case (mapA 4 ++ putJob 0 944 (3 ∷ [])) (numbers 0 5 10 0 16 10 18) 72 sheetA
+    ∷ case (mapA 4 ++ putJob 0 16 (3 ∷ [])) (numbers 0 5 10 0 16 10 18) 72 sheetA
+    ∷ case (mapA 4 ++ putJob 0 15 (3 ∷ [])) (numbers 16 0 0 5 15 10 0) 72 []
+    ∷ case (mapA 4 ++ putJob 0 0 (3 ∷ [])) (numbers 16 0 0 0 0 1 0) 72 []
     -- P5: an estimate that overstates
-    ∷ run (mapA 9 ++ putJob 0 944 (3 ∷ [])) (numbers 0 6 8 0 7 6 16) 72 sheet5
+    ∷ case (mapA 9 ++ putJob 0 944 (3 ∷ [])) (numbers 0 6 8 0 7 6 16) 72 sheet5
     -- P6: the start is the goal
-    ∷ run (mapA 4 ++ putJob 3 944 (3 ∷ [])) (numbers 0 0 0 0 0 1 12) 72 sheet6
+    ∷ case (mapA 4 ++ putJob 3 944 (3 ∷ [])) (numbers 0 0 0 0 0 1 12) 72 sheet6
     -- P7 and P8: no route
-    ∷ run (pair ++ putJob 0 1 (1 ∷ [])) (numbers 17 0 0 0 1 1 6) 34 noRouteFrom0
-    ∷ run (pair ++ putEstimate 0 7 ++ putJob 0 1 (1 ∷ [])) (numbers 17 0 14 0 1 1 6) 34 noRouteFrom0
+    ∷ case (pair ++ putJob 0 1 (1 ∷ [])) (numbers 17 0 0 0 1 1 6) 34 noRouteFrom0
+    ∷ case (pair ++ putEstimate 0 7 ++ putJob 0 1 (1 ∷ [])) (numbers 17 0 14 0 1 1 6) 34 noRouteFrom0
     -- P9: two equal ways
-    ∷ run (square ++ putJob 0 944 (3 ∷ [])) (numbers 0 2 2 0 10 6 16) 72 sheet9
+    ∷ case (square ++ putJob 0 944 (3 ∷ [])) (numbers 0 2 2 0 10 6 16) 72 sheet9
     -- P10: the comparison goes from the goal back
-    ∷ run (hexagon ++ putJob 0 1416 (5 ∷ [])) (numbers 0 3 4 0 19 8 18) 108 sheet10
+    ∷ case (hexagon ++ putJob 0 1416 (5 ∷ [])) (numbers 0 3 4 0 19 8 18) 108 sheet10
     ∷ []
 
 runs-agree : agree runs ≡ true
 unfolding
     compute
     mapA pair square hexagon
-    same seven over agrees agree run numbers
+    same seven over agrees agree case numbers
     sheetA sheet5 sheet6 noRouteFrom0 sheet9 sheet10 runs
 runs-agree = refl
 
@@ -155,12 +156,12 @@ toPlace3 : List ℕ
 toPlace3 = 0x0C ∷ 0x00 ∷ 0x11 ∷ 0x00 ∷ 0x02 ∷ 0x00 ∷ 0x00 ∷ 0x00 ∷ 0x03 ∷ 0x00 ∷ 0x00 ∷ 0x00 ∷ 0x02 ∷ 0x00 ∷ 0x03 ∷ 0x00 ∷ []
 
 -- several goals: of equal ones the lowest-numbered, and the first in order, which is not the first generated
-goalRuns : List Run
+goalRuns : List Case
 goalRuns =
-    run (star ++ putJob 0 944 (2 ∷ 3 ∷ [])) (numbers 0 2 4 0 6 5 14) 70 toPlace2
-    ∷ run (detour ++ putJob 0 944 (1 ∷ 3 ∷ [])) (numbers 0 2 2 0 5 4 16) 70 toPlace3
+    case (star ++ putJob 0 944 (2 ∷ 3 ∷ [])) (numbers 0 2 4 0 6 5 14) 70 toPlace2
+    ∷ case (detour ++ putJob 0 944 (1 ∷ 3 ∷ [])) (numbers 0 2 2 0 5 4 16) 70 toPlace3
     ∷ []
 
 goal-runs-agree : agree goalRuns ≡ true
-unfolding compute star detour same seven over agrees agree run numbers toPlace2 toPlace3 goalRuns
+unfolding compute star detour same seven over agrees agree case numbers toPlace2 toPlace3 goalRuns
 goal-runs-agree = refl

@@ -15,7 +15,7 @@ use Rattle.model.specs.Costs.{Table, costAt, table}
 use Rattle.model.specs.Query.{Key, precedes, within, firstGoal, lengthTo, crossing, nextLimit, notOver, judge, queryOn, query}
 use Rattle.model.specs.Rounds.{Round, firstRound, limitOf, after, Step, ask, next, goOn, traceUpTo, enough, trace, total, begun, Search, search}
 use Rattle.model.specs.Routes.{parent, extend, routeUpTo, routeTo}
-use Rattle.model.specs.Answer.{noRoute, routed, finished, searched}
+use Rattle.model.specs.Endings.{finished, endingIf, budgeted}
 use Rattle.model.specs.Terms.{SameProblem}
 use Rattle.model.proofs.Lists.{filterMap-member, least-none, least-some, member-true}
 use Rattle.model.proofs.LeastCosts.{table-length, table-least}
@@ -196,17 +196,18 @@ module _ (p q : Problem) (ok : Valid p) (fine : Valid q) (same : SameProblem p q
 
   same-finished : (s : Search) (C : ℕ) (o : Option Key) → finished p s (table p C) o ≡ finished q s (table q C) o
   unfolding finished
-  same-finished s C none = ap (λ (u : ℕ). noRoute u (s .last .limit) (s .expansions) (s .queries)) (same .start)
-  same-finished s C (some g) = ap (λ (r : List ℕ). routed (g .cost) r (s .last .limit) (s .expansions) (s .queries)) (same-route C g)
+  same-finished s C none = rw (same .start)
+  same-finished s C (some g) = rw (same-route C g)
 
-  same-searched : (s : Search) (b : Bool) → searched p s b ≡ searched q s b
-  unfolding searched
-  same-searched s true = refl
-  same-searched s false =
+  same-ending-if : (b : Bool) (s : Search) → endingIf b p s ≡ endingIf b q s
+  unfolding endingIf
+  same-ending-if true s = refl
+  same-ending-if false s =
       let C = s .last .limit in
       let goal = same-first-goal (table p C) ∙ ap (firstGoal q) (same-table C) in
       same-finished s C (firstGoal p (table p C)) ∙ ap (finished q s (table q C)) goal
 
   -- so the two end alike under every allowance
-  pub same-ending : (a : ℕ) → searched p (search p a) (search p a .spent) ≡ searched q (search q a) (search q a .spent)
-  same-ending a = same-searched (search p a) (search p a .spent) ∙ ap (λ (s : Search). searched q s (s .spent)) (same-search a)
+  pub same-ending : (a : ℕ) → budgeted p a ≡ budgeted q a
+  unfolding budgeted
+  same-ending a = same-ending-if (search p a .spent) (search p a) ∙ ap (λ (s : Search). endingIf (s .spent) q s) (same-search a)

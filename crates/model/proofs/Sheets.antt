@@ -182,25 +182,25 @@ pub record IsNoRouteSheet (b : List ℕ) (r : Reading) : Type 0 where
   pub read : r ≡ reading 17 0 (start ∷ [])
 
 -- how a read ends
-data Outcome (b : List ℕ) : Reading → Type 0 where
+data ReadAs (b : List ℕ) : Reading → Type 0 where
   a-route : (body : List ℕ) → frame b ≡ alone (record { kind = routeKind; body = body })
       → length body ≡ 6 + 2 * u16 body 4 → Possible (u32 body 0) (u16s (u16 body 4) body 6)
-      → Outcome b (reading 0 (u32 body 0) (u16s (u16 body 4) body 6))
+      → ReadAs b (reading 0 (u32 body 0) (u16s (u16 body 4) body 6))
   no-route : (body : List ℕ) → frame b ≡ alone (record { kind = noRouteKind; body = body })
-      → length body ≡ 2 → u16 body 0 < maxPlaces → Outcome b (reading 17 0 (u16 body 0 ∷ []))
-  refused : (n : ℕ) → 18 ≤ n → n ≤ 19 → Outcome b (refusedRead n)
+      → length body ≡ 2 → u16 body 0 < maxPlaces → ReadAs b (reading 17 0 (u16 body 0 ∷ []))
+  refused : (n : ℕ) → 18 ≤ n → n ≤ 19 → ReadAs b (refusedRead n)
 
 module _ (b : List ℕ) where
-  checked-outcome : (number cost : ℕ) (places : List ℕ) → (Possible cost places → Outcome b (reading number cost places))
-      → Outcome b (checked number cost places)
+  checked-outcome : (number cost : ℕ) (places : List ℕ) → (Possible cost places → ReadAs b (reading number cost places))
+      → ReadAs b (checked number cost places)
   unfolding checked
   checked-outcome number cost places h = go (impossible cost places) refl
     where
-      go : (t : Bool) → impossible cost places ≡ t → Outcome b (cond t (refusedRead 19) (reading number cost places))
+      go : (t : Bool) → impossible cost places ≡ t → ReadAs b (cond t (refusedRead 19) (reading number cost places))
       go true e = refused 19 (omega arith) (omega arith)
       go false e = h (possible cost places e)
 
-  record-outcome : (r : Record) → frame b ≡ alone r → Outcome b (readRecord r)
+  record-outcome : (r : Record) → frame b ≡ alone r → ReadAs b (readRecord r)
   unfolding readRecord fitsRoute fitsNoRoute
   record-outcome r e = go (fitsRoute r) refl (fitsNoRoute r) refl
     where
@@ -211,7 +211,7 @@ module _ (b : List ℕ) where
       of-kind k q = e ∙ λ i. alone (record { kind = q i; body = x })
 
       go : (t : Bool) → fitsRoute r ≡ t → (u : Bool) → fitsNoRoute r ≡ u
-          → Outcome b (cond t (checked 0 (u32 x 0) (u16s (u16 x 4) x 6)) (cond u (checked 17 0 (u16 x 0 ∷ [])) (refusedRead 18)))
+          → ReadAs b (cond t (checked 0 (u32 x 0) (u16s (u16 x 4) x 6)) (cond u (checked 17 0 (u16 x 0 ∷ [])) (refusedRead 18)))
       go true f u g =
           let parts = both (eqb (r .kind) routeKind) (eqb (length x) (6 + 2 * u16 x 4)) f in
           let framed = of-kind routeKind (eqb-true (r .kind) routeKind (parts .0)) in
@@ -222,11 +222,11 @@ module _ (b : List ℕ) where
           checked-outcome 17 0 (u16 x 0 ∷ []) (λ h. no-route x framed (eqb-true (length x) 2 (parts .1)) (h .place-below 0 (omega arith)))
       go false f false g = refused 18 (omega arith) (omega arith)
 
-  outcome : Outcome b (readSheet b)
+  outcome : ReadAs b (readSheet b)
   unfolding readSheet readFramed
   outcome = go (frame b .broken) (frame b .records) refl
     where
-      go : (t : Bool) (rs : List Record) → frame b ≡ record { records = rs; broken = t } → Outcome b (readFramed t rs)
+      go : (t : Bool) (rs : List Record) → frame b ≡ record { records = rs; broken = t } → ReadAs b (readFramed t rs)
       go true rs e = refused 18 (omega arith) (omega arith)
       go false [] e = refused 18 (omega arith) (omega arith)
       go false (r ∷ []) e = record-outcome r e
@@ -259,7 +259,7 @@ pub accepted-route : (b : List ℕ) → Bytes b → readSheet b .number ≡ 0 �
 unfolding reading refusedRead routeSheet
 accepted-route b h e = go (readSheet b) (outcome b) e
   where
-    go : (r : Reading) → Outcome b r → r .number ≡ 0 → IsRouteSheet b r
+    go : (r : Reading) → ReadAs b r → r .number ≡ 0 → IsRouteSheet b r
     go _ (a-route body framed l p) q =
         let whole = framed-record b routeKind body h framed in
         record {
@@ -275,7 +275,7 @@ pub accepted-no-route : (b : List ℕ) → Bytes b → readSheet b .number ≡ 1
 unfolding reading refusedRead noRouteSheet
 accepted-no-route b h e = go (readSheet b) (outcome b) e
   where
-    go : (r : Reading) → Outcome b r → r .number ≡ 17 → IsNoRouteSheet b r
+    go : (r : Reading) → ReadAs b r → r .number ≡ 17 → IsNoRouteSheet b r
     go _ (a-route body framed l p) q = absurd (omega arith)
     go _ (no-route body framed l p) q =
         let whole = framed-record b noRouteKind body h framed in
@@ -293,7 +293,7 @@ pub refused-otherwise : (b : List ℕ) → (readSheet b .number ≡ 0 → ⊥) �
 unfolding reading refusedRead
 refused-otherwise b x y = go (readSheet b) (outcome b) x y
   where
-    go : (r : Reading) → Outcome b r → (r .number ≡ 0 → ⊥) → (r .number ≡ 17 → ⊥) → (n : ℕ) × (r ≡ refusedRead n) × (18 ≤ n) × (n ≤ 19)
+    go : (r : Reading) → ReadAs b r → (r .number ≡ 0 → ⊥) → (r .number ≡ 17 → ⊥) → (n : ℕ) × (r ≡ refusedRead n) × (18 ≤ n) × (n ≤ 19)
     go _ (a-route body framed l p) f g = absurd (f refl)
     go _ (no-route body framed l p) f g = absurd (g refl)
     go _ (refused n l m) f g = (n, refl, l, m)

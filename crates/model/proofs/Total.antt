@@ -7,7 +7,7 @@ use mathlib.Core.List.{List, [], _∷_, List·Memᴰ, List·Memᴰ·head, List·
 use mathlib.Core.Option.{Option, none, some}
 use Prim.Native.Nat.{ℕ, zero, suc, _+_, _-_, _*_, _/_, _^_, _≤_, _<_}
 use native.Mathlib.Nat.{two-pow-succ, mul-suc, mul-add, suc-mul, mul-assoc, mul-comm, mul-left-comm}
-use native.Mathlib.Nat.{mul-le-mul-left, mul-le-mul-right, one-le-mul, le-div-iff-mul-le}
+use native.Mathlib.Nat.{mul-le-mul-left, mul-le-mul-right, one-le-mul, le-div-iff-mul-le, div-one}
 use native.Mathlib.Omega.{arith}
 use lib.Dec.{eqb}
 use lib.Pow.{pow-pos}
@@ -16,7 +16,8 @@ use Rattle.model.specs.Numbers.{digitsUpTo, binaryDigits}
 use Rattle.model.specs.Problem.{Problem, Valid}
 use Rattle.model.specs.Query.{Outcome, ended, over, found, nothing, query}
 use Rattle.model.specs.Rounds.{Round, Step, firstRound, limitOf, closeIf, settle, after, ask, next, goOn, traceUpTo, enough, trace, total}
-use Rattle.model.specs.Terms.{Kept, Closes}
+use Rattle.model.specs.Rounds.{neverSpent}
+use Rattle.model.specs.Terms.{RoundKept, Closes}
 use Rattle.model.proofs.Lists.{none-some}
 use Rattle.model.proofs.Queries.{ended-next, cost-at-most-budget}
 use Rattle.model.proofs.Crossing.{next-above-limit}
@@ -47,8 +48,8 @@ digits-some : (x : ℕ) → 1 ≤ x → 1 ≤ binaryDigits x
 digits-some x h = omega (arith, digits-rise 0 x h (omega arith))
 
 -- A query costs c, at most b, and the number of queries left falls from Q to P: what g b Q falls by pays for g c.
-charge : (g t m B : ℕ) {b c P Q : ℕ} → c ≤ b → P < Q → g * t + m ≤ B + g * (b * P) → g * (c + t) + m ≤ B + g * (b * Q)
-charge g t m B {b} {c} {P} {Q} h l e =
+pays-for : (g t m B : ℕ) {b c P Q : ℕ} → c ≤ b → P < Q → g * t + m ≤ B + g * (b * P) → g * (c + t) + m ≤ B + g * (b * Q)
+pays-for g t m B {b} {c} {P} {Q} h l e =
     let price : g * c ≤ g * b = mul-le-mul-left g h in
     let less : g * (b * suc P) ≤ g * (b * Q) = mul-le-mul-left g (mul-le-mul-left b l) in
     omega (arith, mul-add g c t, simp (mul-suc, mul-add) at less)
@@ -90,17 +91,17 @@ module _ (p : Problem) (ok : Valid p) where
   Proceeds d r s = GoesOn d r s ⊎ IsClosed p r s
 
   -- low and high move to these, which close the round where they are equal
-  settles : (d : ℕ) (r : Round) (low h : ℕ) → Kept p (settle (p .growth) low (some h) (r .budget)) → query p h (r .budget) .outcome ≡ over
+  settles : (d : ℕ) (r : Round) (low h : ℕ) → RoundKept p (settle (p .growth) low (some h) (r .budget)) → query p h (r .budget) .outcome ≡ over
       → (low < h → binaryDigits (h - low) < left d (r .low) (r .high)) → Proceeds d r (settle (p .growth) low (some h) (r .budget))
   unfolding settle closeIf left
   settles d r low h k o f = go (eqb low h) refl k
     where
-      go : (x : Bool) → eqb low h ≡ x → Kept p (closeIf x (p .growth) low h (r .budget))
+      go : (x : Bool) → eqb low h ≡ x → RoundKept p (closeIf x (p .growth) low h (r .budget))
           → Proceeds d r (closeIf x (p .growth) low h (r .budget))
       go true e c = inr (record { unset = refl; grown = refl; was-over = rw (eqb-true low h e) o })
       go false e c = inl (record { same = refl; fewer = f (c .high-above h refl) })
 
-  proceeds-ended : (d low : ℕ) (high : Option ℕ) (b x : ℕ) → Kept p (round low high b) → Kept p (settle (p .growth) x high b)
+  proceeds-ended : (d low : ℕ) (high : Option ℕ) (b x : ℕ) → RoundKept p (round low high b) → RoundKept p (settle (p .growth) x high b)
       → low < 2 ^ d → limitOf low high < x → Proceeds d (round low high b) (settle (p .growth) x high b)
   unfolding limitOf settle left
   proceeds-ended d low none b x k c l a =
@@ -111,8 +112,8 @@ module _ (p : Problem) (ok : Valid p) where
       let gap : low < h = k .high-above h refl in
       settles d (round low (some h) b) x h c (k .high-over h refl) (λ f. digits-rise (h - x) (h - low) (omega arith) (omega arith))
 
-  proceeds-over : (d low : ℕ) (high : Option ℕ) (b : ℕ) → Kept p (round low high b)
-      → Kept p (settle (p .growth) low (some (limitOf low high)) b) → low < 2 ^ d → query p (limitOf low high) b .outcome ≡ over
+  proceeds-over : (d low : ℕ) (high : Option ℕ) (b : ℕ) → RoundKept p (round low high b)
+      → RoundKept p (settle (p .growth) low (some (limitOf low high)) b) → low < 2 ^ d → query p (limitOf low high) b .outcome ≡ over
       → Proceeds d (round low high b) (settle (p .growth) low (some (limitOf low high)) b)
   unfolding limitOf left
   proceeds-over d low none b k c l o = settles d (round low none b) low (2 * low) c o λ f.
@@ -123,14 +124,14 @@ module _ (p : Problem) (ok : Valid p) where
       let gap : low < h = k .high-above h refl in
       settles d (round low (some h) b) low ((low + h) / 2) c o (λ f. digits-rise ((low + h) / 2 - low) (h - low) (omega arith) (omega arith))
 
-  pub proceeds : (d : ℕ) (r s : Round) → Kept p r → r .low < 2 ^ d → next p (ask p r) ≡ some s → Proceeds d r s
+  pub proceeds : (d : ℕ) (r s : Round) → RoundKept p r → r .low < 2 ^ d → next p (ask p r) ≡ some s → Proceeds d r s
   unfolding next ask after
   proceeds d r s k l e = go (query p C (r .budget) .outcome) refl e
     where
       C : ℕ
       C = limitOf (r .low) (r .high)
 
-      kept : Kept p s
+      kept : RoundKept p s
       kept = kept-next p ok r s k e
 
       go : (o : Outcome) → query p C (r .budget) .outcome ≡ o → after (p .growth) r C o ≡ some s → Proceeds d r s
@@ -170,21 +171,21 @@ module _ (p : Problem) (ok : Valid p) where
     pays : {Q : ℕ} → Q < left d (r .low) (r .high) → (p .growth - 1) * total ss + used d (r .budget) ≤ bound n d + (p .growth - 1) * (r .budget * Q)
         → Keeps n d r (ask p r ∷ ss)
     unfolding total ask
-    pays = charge (p .growth - 1) (total ss) (used d (r .budget)) (bound n d) (cost-at-most-budget p (limitOf (r .low) (r .high)) (r .budget))
+    pays = pays-for (p .growth - 1) (total ss) (used d (r .budget)) (bound n d) (cost-at-most-budget p (limitOf (r .low) (r .high)) (r .budget))
 
     -- the last query of a round
-    keeps-last : Kept p r → r .low < 2 ^ d → (p .growth - 1) * total ss + used d (r .budget) ≤ bound n d → Keeps n d r (ask p r ∷ ss)
+    keeps-last : RoundKept p r → r .low < 2 ^ d → (p .growth - 1) * total ss + used d (r .budget) ≤ bound n d → Keeps n d r (ask p r ∷ ss)
     keeps-last k l h = pays (left-some d (r .low) (r .high) l (k .high-above)) (omega arith)
 
     keeps-on : (s : Round) → GoesOn d r s → Keeps n d s ss → Keeps n d r (ask p r ∷ ss)
     keeps-on s on h = pays (on .fewer) (rw (on .same) at h)
 
-    keeps-closed : (s : Round) → IsClosed p r s → Kept p r → r .low < 2 ^ d → Keeps n d s ss → Keeps n d r (ask p r ∷ ss)
+    keeps-closed : (s : Round) → IsClosed p r s → RoundKept p r → r .low < 2 ^ d → Keeps n d s ss → Keeps n d r (ask p r ∷ ss)
     keeps-closed s c k l h =
         let first : left d (s .low) (s .high) ≤ 2 * d + 1 = rw (c .unset) (left-at-first d (s .low)) in
         keeps-last k l (grow (total ss) (p .growth * r .budget) (omega (arith, ok .grows)) first (rw (c .grown) at h))
 
-  keeps : (n d k : ℕ) (r : Round) → Kept p r → r .budget ≤ p .growth * n → Bounded n d (traceUpTo k p r) → Keeps n d r (traceUpTo k p r)
+  keeps : (n d k : ℕ) (r : Round) → RoundKept p r → r .budget ≤ p .growth * n → Bounded n d (traceUpTo k p r) → Keeps n d r (traceUpTo k p r)
   unfolding traceUpTo total goOn ask
   keeps n d zero r k small w = omega (arith, used-below n d (r .budget) small)
   keeps n d (suc j) r k small w = go (next p (ask p r)) refl rest (keeps n d j)
@@ -204,7 +205,7 @@ module _ (p : Problem) (ok : Valid p) where
           keeps-closed n d r (traceUpTo j p s) s c k low (ih (rw (c .grown) (mul-le-mul-left (p .growth) below)))
 
       go : (o : Option Round) → next p (ask p r) ≡ o → Bounded n d (goOn o (traceUpTo j p))
-          → ((s : Round) → Kept p s → s .budget ≤ p .growth * n → Bounded n d (traceUpTo j p s) → Keeps n d s (traceUpTo j p s))
+          → ((s : Round) → RoundKept p s → s .budget ≤ p .growth * n → Bounded n d (traceUpTo j p s) → Keeps n d s (traceUpTo j p s))
           → Keeps n d r (ask p r ∷ goOn o (traceUpTo j p))
       go none e v ih = keeps-last n d r [] k low (omega (arith, used-below n d (r .budget) small))
       go (some s) e v ih = onward s e (λ h. ih s (kept-next p ok r s k e) h v) (proceeds d r s k low e)
@@ -222,7 +223,7 @@ module _ (p : Problem) (ok : Valid p) where
   pub closes-over : (s : Step) → List·Memᴰ s (trace p) → (c : Closes p s) → query p (c .round .low) (s .round .budget) .outcome ≡ over
   closes-over s i c = go (proceeds 29 (s .round) (c .round) kept (low-below p ok s i) (ap (next p) (sym (asked p s i)) ∙ c .comes-next))
     where
-      kept : Kept p (s .round)
+      kept : RoundKept p (s .round)
       kept = rounds-kept p ok s i
 
       go : Proceeds 29 (s .round) (c .round) → query p (c .round .low) (s .round .budget) .outcome ≡ over
@@ -233,17 +234,18 @@ module _ (p : Problem) (ok : Valid p) where
 
   pub total-any : (p .growth - 1) * total (trace p) ≤ 59 * p .growth * p .growth * p .places
   total-any =
-      let closes-below : (s : Step) → List·Memᴰ s (trace p) → Closes p s → s .round .budget < p .places = λ s i c. over-short p ok _ _ (closes-over s i c) in
+      let closes-below : (s : Step) → List·Memᴰ s (trace p) → Closes p s → s .round .budget < p .places =
+      λ s i c. over-short p ok _ _ (closes-over s i c) in
       let all = total-bounded (p .places) 29 (ok .some-place) (low-below p ok) closes-below in
       omega (arith, all, mul-assoc 59 (p .growth) (p .growth), mul-assoc 59 (p .growth * p .growth) (p .places))
 
-  pub total-at-most : total (trace p) ≤ (59 * p .growth * p .growth * p .places + (p .growth - 2)) / (p .growth - 1)
+  pub total-at-most : total (trace p) ≤ neverSpent p
+  unfolding neverSpent
   total-at-most =
       let some-growth : 0 < p .growth - 1 = omega (arith, ok .grows) in
       le-div-iff-mul-le some-growth .1 (omega (arith, total-any, mul-comm (total (trace p)) (p .growth - 1)))
 
-  pub total-at-most-2 : p .growth ≡ 2 → total (trace p) ≤ 236 * p .places
-  total-at-most-2 e = go (p .growth) (total (trace p)) e total-any
-    where
-      go : (q t : ℕ) → q ≡ 2 → (q - 1) * t ≤ 59 * q * q * p .places → t ≤ 236 * p .places
-      go q t f h = omega (arith, rw f at h)
+-- at growth 2 that is document 01's figure
+pub never-spent-at-2 : (p : Problem) → p .growth ≡ 2 → neverSpent p ≡ 236 * p .places
+unfolding neverSpent
+never-spent-at-2 p two = rw two (div-one (59 * 2 * 2 * p .places + 0) ∙ omega arith)

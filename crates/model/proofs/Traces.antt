@@ -10,7 +10,7 @@ use lib.ListN.{length}
 use Rattle.model.specs.Numbers.{binaryDigits}
 use Rattle.model.specs.Problem.{Problem, Valid}
 use Rattle.model.specs.Rounds.{Round, Step, firstRound, ask, next, goOn, traceUpTo, enough, trace}
-use Rattle.model.specs.Terms.{Kept, Final, Finished, Run, last, more}
+use Rattle.model.specs.Terms.{RoundKept, Final, Finished, Run, last, more}
 use Rattle.model.proofs.Rounds.{final-has-no-next, kept-first, over-short, kept-next, low-below, trace-finished, along}
 use Rattle.model.proofs.Total.{digits-below, left, left-at-first, left-some, IsClosed, Proceeds, proceeds}
 
@@ -47,7 +47,7 @@ module _ (p : Problem) (ok : Valid p) where
   abbrev mostLeft : Round → ℕ
   mostLeft r = left 29 (r .low) (r .high) + 59 * (p .places - r .budget)
 
-  run-length : (r : Round) (ss : List Step) → Run p r ss → Kept p r → LowBelow ss → length ss ≤ mostLeft r
+  run-length : (r : Round) (ss : List Step) → Run p r ss → RoundKept p r → LowBelow ss → length ss ≤ mostLeft r
   unfolding ask
   run-length r ss (last e) k low =
       omega (arith, left-some 29 (r .low) (r .high) (low (ask p r) (List·Memᴰ·head refl)) (k .high-above))
@@ -78,7 +78,7 @@ module _ (p : Problem) (ok : Valid p) where
   -- the budget is 1, or the growth times one below N
   pub budget-at-most : (s : Step) → List·Memᴰ s (trace p) → s .round .budget ≤ p .growth * p .places
   unfolding firstRound
-  budget-at-most s i = along p (λ r. Kept p r × BudgetBelow r) (kept-first p ok, first) step s i .1
+  budget-at-most s i = along p (λ r. RoundKept p r × BudgetBelow r) (kept-first p ok, first) step s i .1
     where
       first : BudgetBelow (firstRound p)
       first = one-le-mul (omega (arith, ok .grows)) (ok .some-place)
@@ -87,7 +87,7 @@ module _ (p : Problem) (ok : Valid p) where
       onward d r t h (inl on) = rw (on .same) h
       onward d r t h (inr c) = rw (c .grown) (mul-le-mul-left (p .growth) (omega (arith, closed-short r t c)))
 
-      step : (r t : Round) → Kept p r × BudgetBelow r → next p (ask p r) ≡ some t → Kept p t × BudgetBelow t
+      step : (r t : Round) → RoundKept p r × BudgetBelow r → next p (ask p r) ≡ some t → RoundKept p t × BudgetBelow t
       step r t h e =
           let d = binaryDigits (r .low) in
           let proceeding = proceeds p ok d r t (h .0) (digits-below (r .low) d .0 (omega arith)) e in

@@ -6,7 +6,7 @@ use lib.ListN.{length, take}
 use Rattle.model.specs.Bytes.{Bytes}
 use Rattle.model.specs.Framing.{frame}
 use Rattle.model.specs.Problem.{Problem}
-use Rattle.model.specs.Input.{problemOf, allowanceOf}
+use Rattle.model.specs.Stated.{Stated, stated, problemOf}
 use Rattle.model.specs.Refusals.{Accepted}
 use Rattle.model.specs.Answer.{Result, route}
 
@@ -18,12 +18,15 @@ pub record Call : Type 0 where
   pub bytes : Bytes input
 
 module _ (c : Call) where
-  -- the problem and the allowance that the input states
+  -- what the input states; its problem, and its allowance
+  abbrev pub statedIn : Stated
+  statedIn = stated (frame (c .input) .records)
+
   abbrev pub problem : Problem
-  problem = problemOf (frame (c .input) .records)
+  problem = problemOf statedIn
 
   abbrev pub allowance : ℕ
-  allowance = allowanceOf (frame (c .input) .records)
+  allowance = statedIn .job .allowance
 
   abbrev pub IsAccepted : Type 0
   IsAccepted = Accepted (c .input) (length (c .work)) (length (c .sheet))

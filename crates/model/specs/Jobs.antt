@@ -7,7 +7,7 @@ use lib.ListN.{length}
 use Rattle.model.specs.Bytes.{put16, put32, put16s}
 use Rattle.model.specs.Framing.{putRecord}
 use Rattle.model.specs.Limits.{maxPlaces, maxCost}
-use Rattle.model.specs.Input.{headKind, arcKind, estimateKind, jobKind}
+use Rattle.model.specs.Items.{headKind, arcKind, estimateKind, jobKind}
 
 unfoldable pub putHead : ℕ → ℕ → List ℕ
 putHead n m = putRecord headKind (put16 n ++ put16 m)

@@ -1,18 +1,21 @@
 -- Document 01 as definitions, in the order in which they rest on each other.
 pub mod Lists
+pub mod Sums
 pub mod Numbers
 pub mod Bytes
 pub mod Framing
 pub mod Limits
 pub mod Problem
 pub mod Paths
-pub mod Input
+pub mod Items
+pub mod Stated
 pub mod Refusals
 pub mod Costs
 pub mod Query
 pub mod Rounds
 pub mod Routes
 pub mod Sheets
+pub mod Endings
 pub mod Answer
 pub mod Calls
 pub mod Jobs

@@ -1,8 +1,8 @@
 -- Tests of lists and choices from them, which compute.
 use mathlib.Core.Bool.{Bool, true, false, cond, _&&_, _||_}
-use mathlib.Core.List.{List, [], _∷_}
+use mathlib.Core.List.{List, [], _∷_, _++_}
 use mathlib.Core.Option.{Option, none, some}
-use Prim.Native.Nat.{ℕ}
+use Prim.Native.Nat.{ℕ, zero, suc}
 use lib.Dec.{ltb, eqb}
 
 -- some element passes the test
@@ -14,6 +14,10 @@ any f (x ∷ xs) = f x || any f xs
 unfoldable pub filter {ℓ} : {A : Type ℓ} → (A → Bool) → List A → List A
 filter f [] = []
 filter f (x ∷ xs) = cond (f x) (x ∷ filter f xs) (filter f xs)
+
+unfoldable pub isGiven {ℓ} : {A : Type ℓ} → Option A → Bool
+isGiven none = false
+isGiven (some x) = true
 
 unfoldable pub consIf {ℓ} : {A : Type ℓ} → Option A → List A → List A
 consIf none xs = xs
@@ -50,3 +54,8 @@ unfoldable pub rises : List ℕ → Bool
 rises [] = true
 rises (x ∷ []) = true
 rises (x ∷ y ∷ xs) = ltb x y && rises (y ∷ xs)
+
+-- the numbers below n
+unfoldable pub below : ℕ → List ℕ
+below zero = []
+below (suc n) = below n ++ (n ∷ [])

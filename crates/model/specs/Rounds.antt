@@ -82,6 +82,11 @@ begun allowance [] = []
 begun allowance (s ∷ ss) =
     s ∷ cond (ltb allowance (s .query .cost)) [] (begun (allowance - s .query .cost) ss)
 
+-- An allowance that is never spent, under any estimates: 59 × q × q × N divided by q − 1 and rounded up, for a growth of q. "An allowance of
+-- 236 × N is never spent": that is this one at 2.
+unfoldable pub neverSpent : Problem → ℕ
+neverSpent p = let q = p .growth in (59 * q * q * p .places + (q - 2)) / (q - 1)
+
 -- how the search ends under an allowance
 pub record Search : Type 0 where
   pub spent : Bool

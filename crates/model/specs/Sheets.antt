@@ -75,7 +75,8 @@ readFramed false (r ∷ s ∷ rs) = refusedRead 18
 unfoldable pub readSheet : List ℕ → Reading
 readSheet bytes = let f = frame bytes in readFramed (f .broken) (f .records)
 
--- "For 0 it gets the read's number, for 1 the cost, for 2 the count, for 3 + i place i; a refused read or a place beyond the last gives 0 to all but question 0."
+-- "For 0 it gets the read's number, for 1 the cost, for 2 the count, for 3 + i place i; a refused read or a place beyond the last gives 0 to all
+-- but question 0."
 unfoldable pub hostAnswer : Reading → ℕ → ℕ
 hostAnswer r zero = r .number
 hostAnswer r (suc zero) = r .cost

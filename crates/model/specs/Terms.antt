@@ -27,7 +27,7 @@ unfoldable pub Inside : {p : Problem} (C : ℕ) {u v d : ℕ} → Walk p u v d �
 Inside {p = p} C w = (x : ℕ) → List·Memᴰ x (places w) → IsWithin (table p C) x
 
 -- what holds of the round as each query begins
-pub record Kept (p : Problem) (r : Round) : Type 0 where
+pub record RoundKept (p : Problem) (r : Round) : Type 0 where
   pub start-low : p .estimate (p .start) ≤ r .low
   pub some-budget : 1 ≤ r .budget
   pub high-above : (h : ℕ) → r .high ≡ some h → r .low < h

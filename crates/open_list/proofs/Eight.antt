@@ -2,33 +2,36 @@
 -- Assumes nothing.
 use mathlib.Core.Path.{_≡_, ap}
 use mathlib.Core.Logic.{_≢_}
-use Prim.Native.Nat.{ℕ, _+_, _-_, _<_, _≤_, min}
+use Prim.Native.Nat.{ℕ, zero, suc, _+_, _-_, _<_, _≤_, min}
 use native.Mathlib.Decide.{ℕ-discrete, decLt}
 use native.Mathlib.Omega.{arith}
-use Rattle.open_list.specs.Tree.{least2, least4, least8}
+use Rattle.open_list.specs.Tree.{leastTo, least4, least8}
+
+-- ---- it is the lesser of two fours' least
+min-assoc : (a b c : ℕ) → min a (min b c) ≡ min (min a b) c
+min-assoc a b c = omega arith
+
+pub in-fours : (f : ℕ → ℕ) (c a b v : ℕ) → a ≡ least4 f c → b ≡ least4 f (c + 4) → v ≡ min a b → v ≡ least8 f c
+unfolding leastTo
+in-fours f c a b v p q r =
+    let e : c + 4 + 1 ≡ c + 5 = omega arith in
+    let g : c + 4 + 2 ≡ c + 6 = omega arith in
+    let h : c + 4 + 3 ≡ c + 7 = omega arith in
+    simp (r, p, q, min-assoc, e, g, h)
 
 -- ---- the least is at most each
-le2 : (f : ℕ → ℕ) (c k : ℕ) → Dec (k ≡ 0) → k < 2 → least2 f c ≤ f (c + k)
-unfolding least2
-le2 f c k (yes q) h = let e : f (c + k) ≡ f c = ap f (omega arith) in omega arith
-le2 f c k (no q) h = let e : f (c + k) ≡ f (c + 1) = ap f (omega arith) in omega arith
+le-by : (f : ℕ → ℕ) (c n k : ℕ) → (k ≤ n → leastTo f c n ≤ f (c + k)) → k ≤ suc n → Dec (k ≡ suc n) → leastTo f c (suc n) ≤ f (c + k)
+unfolding leastTo
+le-by f c n k u h (yes q) = let e : f (c + k) ≡ f (c + suc n) = ap f (omega arith) in omega arith
+le-by f c n k u h (no q) = omega (arith, u (omega arith))
 
-le4 : (f : ℕ → ℕ) (c k : ℕ) → Dec (k < 2) → k < 4 → least4 f c ≤ f (c + k)
-unfolding least4
-le4 f c k (yes q) h = omega (arith, le2 f c k (ℕ-discrete k 0) q)
-le4 f c k (no q) h =
-    let e : f (c + 2 + (k - 2)) ≡ f (c + k) = ap f (omega arith) in
-    omega (arith, le2 f (c + 2) (k - 2) (ℕ-discrete (k - 2) 0) (omega arith))
-
-le8-by : (f : ℕ → ℕ) (c k : ℕ) → Dec (k < 4) → k < 8 → least8 f c ≤ f (c + k)
-unfolding least8
-le8-by f c k (yes q) h = omega (arith, le4 f c k (decLt k 2) q)
-le8-by f c k (no q) h =
-    let e : f (c + 4 + (k - 4)) ≡ f (c + k) = ap f (omega arith) in
-    omega (arith, le4 f (c + 4) (k - 4) (decLt (k - 4) 2) (omega arith))
+le-to : (f : ℕ → ℕ) (c n k : ℕ) → k ≤ n → leastTo f c n ≤ f (c + k)
+unfolding leastTo
+le-to f c zero k h = let e : f (c + k) ≡ f c = ap f (omega arith) in omega arith
+le-to f c (suc n) k h = le-by f c n k (le-to f c n k) h (ℕ-discrete k (suc n))
 
 pub le8 : (f : ℕ → ℕ) (c k : ℕ) → k < 8 → least8 f c ≤ f (c + k)
-le8 f c k h = le8-by f c k (decLt k 4) h
+le8 f c k h = le-to f c 7 k (omega arith)
 
 -- ---- the least is one of them
 pub record OneOf (n : ℕ) (f : ℕ → ℕ) (c v : ℕ) : Type 0 where
@@ -36,31 +39,19 @@ pub record OneOf (n : ℕ) (f : ℕ → ℕ) (c v : ℕ) : Type 0 where
   pub few : k < n
   pub is : v ≡ f (c + k)
 
-one2 : (f : ℕ → ℕ) (c : ℕ) → Dec (f c < f (c + 1)) → OneOf 2 f c (least2 f c)
-unfolding least2
-one2 f c (yes q) = let e : f (c + 0) ≡ f c = ap f (omega arith) in record { k = 0; few = omega arith; is = omega arith }
-one2 f c (no q) = record { k = 1; few = omega arith; is = omega arith }
+one-by : (f : ℕ → ℕ) (c n : ℕ) → OneOf (suc n) f c (leastTo f c n) → Dec (leastTo f c n < f (c + suc n))
+    → OneOf (suc (suc n)) f c (leastTo f c (suc n))
+unfolding leastTo
+one-by f c n o (yes q) = record { k = o .k; few = omega (arith, o .few); is = omega (arith, o .is) }
+one-by f c n o (no q) = record { k = suc n; few = omega arith; is = omega arith }
 
-one4 : (f : ℕ → ℕ) (c : ℕ) → Dec (least2 f c < least2 f (c + 2)) → OneOf 4 f c (least4 f c)
-unfolding least4
-one4 f c (yes q) = let o = one2 f c (decLt (f c) (f (c + 1))) in record { k = o .k; few = omega (arith, o .few); is = omega (arith, o .is) }
-one4 f c (no q) =
-    let o = one2 f (c + 2) (decLt (f (c + 2)) (f (c + 2 + 1))) in
-    let e : f (c + 2 + o .k) ≡ f (c + (2 + o .k)) = ap f (omega arith) in
-    record { k = 2 + o .k; few = omega (arith, o .few); is = omega (arith, o .is) }
-
-one8-by : (f : ℕ → ℕ) (c : ℕ) → Dec (least4 f c < least4 f (c + 4)) → OneOf 8 f c (least8 f c)
-unfolding least8
-one8-by f c (yes q) =
-    let o = one4 f c (decLt (least2 f c) (least2 f (c + 2))) in
-    record { k = o .k; few = omega (arith, o .few); is = omega (arith, o .is) }
-one8-by f c (no q) =
-    let o = one4 f (c + 4) (decLt (least2 f (c + 4)) (least2 f (c + 4 + 2))) in
-    let e : f (c + 4 + o .k) ≡ f (c + (4 + o .k)) = ap f (omega arith) in
-    record { k = 4 + o .k; few = omega (arith, o .few); is = omega (arith, o .is) }
+one-to : (f : ℕ → ℕ) (c n : ℕ) → OneOf (suc n) f c (leastTo f c n)
+unfolding leastTo
+one-to f c zero = let e : f (c + 0) ≡ f c = ap f (omega arith) in record { k = 0; few = omega arith; is = omega arith }
+one-to f c (suc n) = one-by f c n (one-to f c n) (decLt (leastTo f c n) (f (c + suc n)))
 
 pub one8 : (f : ℕ → ℕ) (c : ℕ) → OneOf 8 f c (least8 f c)
-one8 f c = one8-by f c (decLt (least4 f c) (least4 f (c + 4)))
+one8 f c = one-to f c 7
 
 -- ---- two eights
 -- where each of the eight is between f's cut to y and f's, and the least at most y, it is f's least cut to y

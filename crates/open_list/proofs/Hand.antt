@@ -11,7 +11,7 @@ use lib.ListN.{length, getD, set, length-set}
 use lib.Seq.{getD-set-same, getD-set-other, set-out, set-getD, set-set, set-comm}
 use Rattle.open_list.specs.Entry.{IsEntry, placeOf, keyOf, wordEnd, noKey}
 use Rattle.open_list.specs.Hand.{Held, HandPut, withHand}
-use Rattle.open_list.specs.Keys.{Least, emptyHand}
+use Rattle.open_list.specs.Keys.{LeastKey, emptyHand}
 
 -- what stands at another place than the hand's stands in the list
 pub elsewhere : (ks : List ℕ) (h q : ℕ) → q ≢ placeOf h → getD (withHand ks h) q 0 ≡ getD ks q 0
@@ -95,7 +95,7 @@ module _ (ks : List ℕ) (few : length ks < wordEnd) where
       record { held = empty-held; keys-set = empty-keys ∙ sym (one ∙ none) }
 
 -- ---- the hand h, and b, the first of the list
-module _ (ks : List ℕ) (h b : ℕ) (g : Held ks h) (f : Least ks (placeOf b) (keyOf b)) where
+module _ (ks : List ℕ) (h b : ℕ) (g : Held ks h) (f : LeastKey ks (placeOf b) (keyOf b)) where
   size : length (withHand ks h) ≡ length ks
   unfolding withHand
   size = length-set ks (placeOf h) (keyOf h)
@@ -109,7 +109,7 @@ module _ (ks : List ℕ) (h b : ℕ) (g : Held ks h) (f : Least ks (placeOf b) (
   both k q a c l (yes e) = rw e (omega (arith, here (omega arith)))
   both k q a c l (no n) = omega (arith, elsewhere ks h q n, f .least q l)
 
-  pub hand-first : h < b → Least (withHand ks h) (placeOf h) (keyOf h)
+  pub hand-first : h < b → LeastKey (withHand ks h) (placeOf h) (keyOf h)
   hand-first c =
       record {
         least = λ q l. both (keyOf h) q (omega arith) (omega arith) (omega (arith, size)) (ℕ-discrete q (placeOf h));
@@ -122,7 +122,7 @@ module _ (ks : List ℕ) (h b : ℕ) (g : Held ks h) (f : Least ks (placeOf b) (
       lowest q a l (yes e) = omega (arith, elsewhere ks h q (omega arith), f .before q (omega arith) (omega arith))
       lowest q a l (no n) = omega (arith, elsewhere ks h q (omega arith), f .least q (omega (arith, in-list ks h g (omega arith))))
 
-  pub list-first : b ≤ h → Least (withHand ks h) (placeOf b) (keyOf b)
+  pub list-first : b ≤ h → LeastKey (withHand ks h) (placeOf b) (keyOf b)
   list-first c =
       record {
         least = λ q l. both (keyOf b) q (omega arith) (omega arith) (omega (arith, size)) (ℕ-discrete q (placeOf h));

@@ -6,11 +6,11 @@ use mathlib.Core.Logic.{_≢_, ite, if-pos, if-neg}
 use Prim.Native.Nat.{ℕ, _+_, _-_, _*_, _<_, _≤_, min}
 use native.Mathlib.Decide.{decLt}
 use native.Mathlib.Omega.{arith}
-use lib.ListN.{length, getD, set, length-set, length-drop}
-use lib.Seq.{getD-set-same, getD-set-other, drop-set-lt, drop-set-add, getD-drop}
+use lib.ListN.{length, getD, take, drop, set, length-set, length-take, length-drop}
+use lib.Seq.{getD-set-same, getD-set-other, drop-set-lt, drop-set-add, take-set-lt, getD-take, getD-drop}
 use Rattle.open_list.specs.Entry.{entry, placeOf, keyOf, noEntry}
-use Rattle.open_list.specs.Size.{Shape}
-use Rattle.open_list.specs.Tree.{treeKeys, nodeEntry, leafEntry, stored, entryAt}
+use Rattle.open_list.specs.Size.{Room, nodesFor}
+use Rattle.open_list.specs.Tree.{Shape, treeKeys, nodeEntry, leafEntry, stored, entryAt}
 use Rattle.open_list.proofs.Eightfold.{SameBut}
 
 -- ---- what stands where
@@ -26,13 +26,16 @@ at-leaf m t p =
     = if-neg (decLt (m + p) m) (λ h. omega arith) (nodeEntry t (m + p)) (leafEntry m t (m + p - m)) in
     ap (λ (x : ℕ). min x noEntry) (q ∙ ap (leafEntry m t) e)
 
-pub keys-at : (m p : ℕ) (t : List ℕ) → getD (treeKeys m t) p 0 ≡ getD t (m + m + p) 0
+pub keys-at : (n m p : ℕ) (t : List ℕ) → m ≡ nodesFor n → p < n → getD (treeKeys n t) p 0 ≡ getD t (m + m + p) 0
 unfolding treeKeys
-keys-at m p t = getD-drop (m + m) t p 0
+keys-at n m p t e l = rw e (getD-take n (drop (nodesFor n + nodesFor n) t) p 0 l ∙ getD-drop (nodesFor n + nodesFor n) t p 0)
 
-pub keys-length : (m : ℕ) (t : List ℕ) → Shape m t → length (treeKeys m t) ≡ 7 * m + 1
+pub keys-length : (n m : ℕ) (t : List ℕ) → Shape n m t → length (treeKeys n t) ≡ n
 unfolding treeKeys
-keys-length m t s = length-drop (m + m) t ∙ omega (arith, s .len)
+keys-length n m t s = simp (length-take, length-drop) (omega (arith, s .nodes .same, s .nodes .keys, s .nodes .words, s .room .len))
+
+room-set : (n i x : ℕ) (t : List ℕ) → Room n t → Room n (set t i x)
+room-set n i x t r = record { some = r .some; few = r .few; len = simp length-set (r .len) }
 
 -- where neither the node nor the key at j changed, nothing did
 unchanged : (m : ℕ) (t u : List ℕ) (j : ℕ) → (j < m → nodeEntry u j ≡ nodeEntry t j) → (m ≤ j → leafEntry m u (j - m) ≡ leafEntry m t (j - m))
@@ -44,17 +47,17 @@ unchanged m t u j a b (no h) =
 
 -- ---- an entry is put down at a node
 -- u is t, but that node i has the entry x
-pub record NodePut (m : ℕ) (t : List ℕ) (i x : ℕ) (u : List ℕ) : Type 0 where
-  pub shape : Shape m u
+pub record NodePut (n m : ℕ) (t : List ℕ) (i x : ℕ) (u : List ℕ) : Type 0 where
+  pub shape : Shape n m u
   pub here : entryAt m u i ≡ min x noEntry
   pub others : SameBut (entryAt m t) (entryAt m u) i
-  pub keys : treeKeys m u ≡ treeKeys m t
+  pub keys : treeKeys n u ≡ treeKeys n t
 
-module _ (m : ℕ) (t : List ℕ) (i x : ℕ) (s : Shape m t) (l : i < m) where
+module _ (n m : ℕ) (t : List ℕ) (i x : ℕ) (s : Shape n m t) (l : i < m) where
   store-here : entryAt m (stored t i x) i ≡ min x noEntry
   unfolding nodeEntry
   store-here =
-      let n : length t ≡ 9 * m + 1 = s .len in
+      let b : 9 * m + 1 ≤ length t = omega (arith, s .room .len, s .nodes .words) in
       let u : List ℕ = set t (i + i) (placeOf x) in
       let k : getD (stored t i x) (i + i + 1) 0 ≡ keyOf x = getD-set-same u (i + i + 1) (keyOf x) 0 (simp length-set (omega arith)) in
       let p : getD (stored t i x) (i + i) 0 ≡ placeOf x
@@ -70,26 +73,39 @@ module _ (m : ℕ) (t : List ℕ) (i x : ℕ) (s : Shape m t) (l : i < m) where
       unchanged m t (stored t i x) j (λ q. omega (arith, far (j + j) (omega arith) (omega arith), far (j + j + 1) (omega arith) (omega arith)))
       (λ q. omega (arith, far (m + m + (j - m)) (omega arith) (omega arith))) (decLt j m)
 
-  store-keys : treeKeys m (stored t i x) ≡ treeKeys m t
+  store-keys : treeKeys n (stored t i x) ≡ treeKeys n t
   unfolding treeKeys
   store-keys =
-      drop-set-lt (m + m) (set t (i + i) (placeOf x)) (i + i + 1) (keyOf x) (omega arith) ∙ drop-set-lt (m + m) t (i + i) (placeOf x) (omega arith)
+      let k : ℕ = nodesFor n + nodesFor n in
+      let b : i + i + 1 < k = omega (arith, s .nodes .same) in
+      ap (take n) (drop-set-lt k (set t (i + i) (placeOf x)) (i + i + 1) (keyOf x) b ∙ drop-set-lt k t (i + i) (placeOf x) (omega arith))
 
-  pub node-put : (u : List ℕ) → u ≡ stored t i x → NodePut m t i x u
-  node-put u e =
-      let shape : Shape m (stored t i x) = record { nodes = s .nodes; len = simp length-set (s .len) } in
-      rw e (record { shape = shape; here = store-here; others = store-other; keys = store-keys })
+  store-shape : Shape n m (stored t i x)
+  store-shape =
+      record {
+        room = room-set n (i + i + 1) (keyOf x) (set t (i + i) (placeOf x)) (room-set n (i + i) (placeOf x) t (s .room));
+        nodes = s .nodes;
+        beyond = λ p a b. far (m + m + p) (omega arith) (omega arith) ∙ s .beyond p a b;
+      }
+
+  pub node-put : (u : List ℕ) → u ≡ stored t i x → NodePut n m t i x u
+  node-put u e = rw e (record { shape = store-shape; here = store-here; others = store-other; keys = store-keys })
 
 -- ---- a key is put down
-module _ (m : ℕ) (t : List ℕ) (p key : ℕ) (s : Shape m t) (l : p < 7 * m + 1) where
-  pub key-shape : Shape m (set t (m + m + p) key)
-  key-shape = record { nodes = s .nodes; len = simp length-set (s .len) }
+module _ (n m : ℕ) (t : List ℕ) (p key : ℕ) (s : Shape n m t) (l : p < n) where
+  pub key-shape : Shape n m (set t (m + m + p) key)
+  key-shape =
+      record {
+        room = room-set n (m + m + p) key t (s .room);
+        nodes = s .nodes;
+        beyond = λ q a b. getD-set-other t (m + m + p) (m + m + q) key 0 (omega arith) ∙ s .beyond q a b;
+      }
 
   pub key-here : entryAt m (set t (m + m + p) key) (m + p) ≡ min (entry p key) noEntry
   unfolding leafEntry
   key-here =
-      let n : length t ≡ 9 * m + 1 = s .len in
-      at-leaf m (set t (m + m + p) key) p ∙ omega (arith, getD-set-same t (m + m + p) key 0 (omega arith))
+      let b : m + m + p < length t = omega (arith, s .room .len, s .nodes .words, s .nodes .keys) in
+      at-leaf m (set t (m + m + p) key) p ∙ omega (arith, getD-set-same t (m + m + p) key 0 b)
 
   pub key-other : SameBut (entryAt m t) (entryAt m (set t (m + m + p) key)) (m + p)
   unfolding nodeEntry leafEntry
@@ -98,6 +114,8 @@ module _ (m : ℕ) (t : List ℕ) (p key : ℕ) (s : Shape m t) (l : p < 7 * m +
       (λ q. omega (arith, getD-set-other t (m + m + p) (j + j) key 0 (omega arith), getD-set-other t (m + m + p) (j + j + 1) key 0 (omega arith)))
       (λ q. omega (arith, getD-set-other t (m + m + p) (m + m + (j - m)) key 0 (omega arith))) (decLt j m)
 
-pub key-keys : (m p key : ℕ) (t : List ℕ) → treeKeys m (set t (m + m + p) key) ≡ set (treeKeys m t) p key
+pub key-keys : (n m p key : ℕ) (t : List ℕ) → m ≡ nodesFor n → p < n → treeKeys n (set t (m + m + p) key) ≡ set (treeKeys n t) p key
 unfolding treeKeys
-key-keys m p key t = drop-set-add (m + m) t p key
+key-keys n m p key t e l =
+    let k : ℕ = nodesFor n + nodesFor n in
+    rw e (ap (take n) (drop-set-add k t p key) ∙ take-set-lt n (drop k t) p key l)

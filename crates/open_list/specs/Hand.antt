@@ -22,6 +22,6 @@ pub record HandPut (place key : ℕ) (oldKeys : List ℕ) (oldHand : ℕ) (keys 
   pub keys-set : withHand keys hand ≡ set (withHand oldKeys oldHand) place key
 
 -- all that the open list's structure needs
-pub record TreeAndHand (m hand : ℕ) (words : List ℕ) : Type 0 where
-  pub tree : Tournament m words
-  pub held : Held (treeKeys m words) hand
+pub record TreeAndHand (n hand : ℕ) (words : List ℕ) : Type 0 where
+  pub tree : Tournament n words
+  pub held : Held (treeKeys n words) hand

@@ -1,32 +1,32 @@
--- How many places the open list has for m nodes, and how many words it needs.
+-- How many words the open list has for n places, and how many nodes its tree has in them.
 use mathlib.Core.Path.{_≡_}
 use mathlib.Core.List.{List}
-use Prim.Native.Nat.{ℕ, _+_, _*_, _≤_}
+use Prim.Native.Nat.{ℕ, _+_, _*_, _/_, _≤_}
 use lib.ListN.{length}
 use Rattle.model.specs.Limits.{maxPlaces}
 
--- the numbers of nodes that a tree can have: the children of each node are all nodes or all leaves
-pub record Nodes (m : ℕ) : Type 0 where
-  pub rows : ℕ
-  pub form : m ≡ 8 * rows + 1
-  pub few : m ≤ 65536
+-- ten words for each place
+abbrev pub wordsFor : ℕ → ℕ
+wordsFor n = 10 * n
 
--- two words for each of m nodes, and one for each of their 7 * m + 1 keys
+-- what `clear` asks: words for n places
+pub record Room (n : ℕ) (words : List ℕ) : Type 0 where
+  pub some : 1 ≤ n
+  pub few : n ≤ maxPlaces
+  pub len : length words ≡ wordsFor n
+
+-- the nodes for n places: one node has 8 keys, and each 8 nodes more have 56 keys more
+unfoldable pub nodesFor : ℕ → ℕ
+nodesFor n = 8 * ((n + 47) / 56) + 1
+
+-- the words that a tree of m nodes uses: two for each node, and one for each of their 7 * m + 1 keys
 abbrev pub wordsOf : ℕ → ℕ
 wordsOf m = 9 * m + 1
 
--- what `clear` asks: words for m nodes and their 7 * m + 1 keys
-pub record Shape (m : ℕ) (words : List ℕ) : Type 0 where
-  pub nodes : Nodes m
-  pub len : length words ≡ wordsOf m
-
--- what `nodes` asks
-pub record Places (places : ℕ) : Type 0 where
-  pub some : 1 ≤ places
-  pub few : places ≤ maxPlaces
-
--- what `nodes` says: m nodes have a key for each place, in at most ten words a place
-pub record Enough (places m : ℕ) : Type 0 where
-  pub nodes : Nodes m
-  pub keys : places ≤ 7 * m + 1
-  pub words : wordsOf m ≤ 10 * places
+-- what the tree's `nodes` says: the children of each of m nodes are all nodes or all leaves, and n places have leaves and words enough
+pub record Nodes (n m : ℕ) : Type 0 where
+  pub rows : ℕ
+  pub form : m ≡ 8 * rows + 1
+  pub same : m ≡ nodesFor n
+  pub keys : n ≤ 7 * m + 1
+  pub words : wordsOf m ≤ wordsFor n

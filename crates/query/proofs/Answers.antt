@@ -7,41 +7,43 @@ use Prim.Native.Nat.{ℕ, _<_}
 use native.Mathlib.Omega.{arith}
 use lib.ListN.{drop}
 use lib.Seq.{ext-getD}
-use Rattle.open_list.specs.Entry.{noKey}
-use Rattle.map.specs.Layout.{endsAt, problemAt}
+use Rattle.map.specs.declared.Site.{Site}
+use Rattle.layout.specs.Regions.{endsAt}
+use Rattle.layout.specs.Map.{problemAt}
+use Rattle.layout.specs.Labels.{noWord, labels}
+use Rattle.layout.proofs.Held.{problem-same}
+use Rattle.layout.proofs.Labels.{wordOr-none, wordOr-some, labels-length}
 use Rattle.model.specs.Problem.{Problem, IsGoal, Valid}
 use Rattle.model.specs.Costs.{costAt, table}
 use Rattle.model.specs.Query as model
 use Rattle.model.specs.Query.{nextLimit, notOver, query}
 use Rattle.model.proofs.LeastCosts.{table-length, entry-path}
 use Rattle.query.specs.Front.{Front, FirstOpen, NoneOpen, countBelow}
-use Rattle.scans.specs.Area.{labels, settledAt, IsNextLimit}
+use Rattle.scans.specs.Area.{IsNextLimit}
+use Rattle.query.specs.Open.{settledAt}
 use Rattle.query.specs.Query.{Ready, Agrees, Answered, outcomeOf}
 use Rattle.query.specs.State.{Searching, AllSettled}
 use Rattle.query.specs.declared.Outcome.the-variants.{Ended, Over, Found, None}
 use Rattle.query.specs.declared.Asked.{Asked}
 use Rattle.query.proofs.Settling.{not-both, path-after}
 use Rattle.query.proofs.Front.{settled-least, labels-are-table, goal-found, goal-outcome, over-outcome, spent-cost, all-settled}
-use Rattle.scans.proofs.Words.{wordOr-none, wordOr-some, labels-length}
-use Rattle.map.proofs.Held.{problem-same}
-use Rattle.query.proofs.QueryUnderway.{Underway, label-below}
+use Rattle.query.proofs.QueryUnderway.{QueryUnderway, label-below}
 
 -- the next limit that was found, as an outcome
-pub ended-none : (n count : ℕ) (w : List ℕ) (next : ℕ) → IsNextLimit n w next → next ≡ noKey → AllSettled n count w (record { spent = false; outcome = None; count = count; place = 0 })
-unfolding notOver
-ended-none n count w next i e =
-    record { lasts = refl; count-is = refl; outcome-is = λ start. rw (← (i .next start), wordOr-none next e) }
+module _ (s : Site) (count : ℕ) (w : List ℕ) (next : ℕ) (i : IsNextLimit s w next) where
+  pub ended-none : next ≡ noWord → AllSettled s count w (record { spent = false; outcome = None; count = count; place = 0 })
+  unfolding notOver
+  ended-none e = record { lasts = refl; count-is = refl; outcome-is = rw (← i .next, wordOr-none next e) }
 
-pub ended-next : (n count : ℕ) (w : List ℕ) (next : ℕ) → IsNextLimit n w next → (next ≡ noKey → ⊥) → AllSettled n count w (record { spent = false; outcome = Ended next; count = count; place = 0 })
-unfolding notOver
-ended-next n count w next i e =
-    record { lasts = refl; count-is = refl; outcome-is = λ start. rw (← (i .next start), wordOr-some next e) }
+  pub ended-next : (next ≡ noWord → ⊥) → AllSettled s count w (record { spent = false; outcome = Ended next; count = count; place = 0 })
+  unfolding notOver
+  ended-next e = record { lasts = refl; count-is = refl; outcome-is = rw (← i .next, wordOr-some next e) }
 
 -- words with the same map are answered the same
-pub answered-same : (n m start limit budget left : ℕ) (w₀ w₁ w : List ℕ) (r : Asked) → drop (endsAt n) w₁ ≡ drop (endsAt n) w₀
-    → Answered n m start limit budget left w₁ w r → Answered n m start limit budget left w₀ w r
-answered-same n m start limit budget left w₀ w₁ w r same a =
-    let p = problem-same n w₁ w₀ same start in
+pub answered-same : (s : Site) (limit budget left : ℕ) (w₀ w₁ w : List ℕ) (r : Asked) → drop (endsAt (s .places)) w₁ ≡ drop (endsAt (s .places)) w₀
+    → Answered s limit budget left w₁ w r → Answered s limit budget left w₀ w r
+answered-same s limit budget left w₀ w₁ w r same a =
+    let p = problem-same s w₁ w₀ same in
     record {
       same-map = a .same-map ∙ same;
       ready = a .ready;
@@ -53,22 +55,26 @@ answered-same n m start limit budget left w₀ w₁ w r same a =
       found = rw p at (a .found);
     }
 
-module _ {n m arcs start limit budget left : ℕ} {w₀ : List ℕ} {hand : ℕ} {w : List ℕ} {count : ℕ} (under : Underway n m arcs start limit budget left w₀ hand w count) where
-  s : Searching n m start limit budget left w₀ hand w count
-  s = under .search
+module _ {s : Site} {limit budget left : ℕ} {w₀ : List ℕ} {hand : ℕ} {w : List ℕ} {count : ℕ}
+    (under : QueryUnderway s limit budget left w₀ hand w count) where
+  searching : Searching s limit budget left w₀ hand w count
+  searching = under .search
+
+  abbrev n : ℕ
+  n = s .places
 
   p : Problem
-  p = problemAt n start w₀
+  p = problemAt s w₀
 
   label : ℕ → Option ℕ
   label v = costAt (labels n w) v
 
   settled : ℕ → Bool
-  settled = settledAt n m hand w
+  settled = settledAt n hand w
 
   front : Front p limit label settled
   unfolding p label settled
-  front = s .front
+  front = searching .front
 
   valid : Valid p
   unfolding p
@@ -76,51 +82,47 @@ module _ {n m arcs start limit budget left : ℕ} {w₀ : List ℕ} {hand : ℕ}
 
   counted : countBelow settled (p .places) ≡ count
   unfolding p settled problemAt
-  counted = s .counted
+  counted = searching .counted
 
-  ready : Ready n m w
-  ready = record { enough = s .coherent .room .enough; used = record { hand = hand; list = s .coherent .list } }
+  ready : Ready n w
+  ready = record { hand = hand; list = searching .coherent .list }
 
   -- nothing is open: the labels are the table, and the outcome is by its next limit
-  pub answered-settled : NoneOpen (λ v. costAt (labels n w) v) (settledAt n m hand w) → (r : Asked) → AllSettled n count w r
-      → Answered n m start limit budget left w₀ w r
+  pub answered-settled : NoneOpen (λ v. costAt (labels n w) v) (settledAt n hand w) → (r : Asked) → AllSettled s count w r
+      → Answered s limit budget left w₀ w r
   unfolding p label settled problemAt notOver
   answered-settled none-open r a =
-      let result = all-settled p valid limit label settled front budget none-open (omega (arith, counted, s .in-budget)) in
+      let result = all-settled p valid limit label settled front budget none-open (omega (arith, counted, searching .in-budget)) in
       let cost : query p limit budget .cost ≡ count = result .0 ∙ counted in
       let outcome : outcomeOf (r .outcome) ≡ notOver none (nextLimit p (table p limit)) =
-      a .outcome-is start ∙ rw (problem-same n w w₀ (s .same-map) start, labels-table) in
+      a .outcome-is ∙ rw (problem-same s w w₀ (searching .same-map), labels-table) in
       record {
-        same-map = s .same-map;
+        same-map = searching .same-map;
         ready = ready;
         spent = λ t. absurd (not-both t (a .lasts));
         cut = λ t. absurd (not-both t (a .lasts));
-        lasts = λ t. omega (arith, cost, s .lasts);
-        outcome = λ t. outcome ∙ sym (ends (nextLimit p (table p limit)) refl (result .1 .0) (result .1 .1));
+        lasts = λ t. omega (arith, cost, searching .lasts);
+        outcome = λ t. outcome ∙ sym (result .1);
         count = λ t. a .count-is ∙ sym cost;
         found = λ t q. absurd (not-found (nextLimit p (table p limit)) (rw q at outcome));
       }
     where
       labels-table : labels n w ≡ table p limit
       labels-table =
-          ext-getD none (labels n w) (table p limit) (labels-length n w (omega (arith, s .coherent .room .words)) ∙ sym (table-length p limit))
+          let size = labels-length n w (omega (arith, searching .coherent .regions .room)) in
+          ext-getD none (labels n w) (table p limit) (size ∙ sym (table-length p limit))
           (λ v h. labels-are-table p valid limit label settled front none-open v)
-
-      ends : (o : Option ℕ) → nextLimit p (table p limit) ≡ o → ((x : ℕ) → nextLimit p (table p limit) ≡ some x → query p limit budget .outcome ≡ model.ended x)
-          → (nextLimit p (table p limit) ≡ none → query p limit budget .outcome ≡ model.nothing) → query p limit budget .outcome ≡ notOver none o
-      ends (some x) e f g = f x e
-      ends none e f g = g e
 
       not-found : (o : Option ℕ) → model.found ≡ notOver none o → ⊥
       not-found (some x) e = let z : _≡_ {A = ℕ} 0 1 = cc in omega arith
       not-found none e = let z : _≡_ {A = ℕ} 0 1 = cc in omega arith
 
-  module _ {v d : ℕ} (f : FirstOpen (λ u. costAt (labels n w) u) (settledAt n m hand w) v d) where
+  module _ {v d : ℕ} (f : FirstOpen (λ u. costAt (labels n w) u) (settledAt n hand w) v d) where
     first : FirstOpen label settled v d
     unfolding label settled
     first = f
 
-    labels-agree : Agrees (labels n w) (table (problemAt n start w₀) limit) d
+    labels-agree : Agrees (labels n w) (table (problemAt s w₀) limit) d
     unfolding p label settled
     labels-agree = record { entry-label = λ u x e l. entry u x e l (settled u) refl; label-entry = λ u x e l. own u x e l (settled u) refl }
       where
@@ -137,18 +139,18 @@ module _ {n m arcs start limit budget left : ℕ} {w₀ : List ℕ} {hand : ℕ}
         own u x e l false o = absurd (omega (arith, first .least u x o e))
 
     -- the first open place is a goal
-    pub answered-goal : IsGoal (problemAt n start w₀) v
-        → Answered n m start limit budget left w₀ w (record { spent = false; outcome = Found; count = count; place = v })
-    unfolding p label
+    pub answered-goal : IsGoal (problemAt s w₀) v
+        → Answered s limit budget left w₀ w (record { spent = false; outcome = Found; count = count; place = v })
+    unfolding p label problemAt
     answered-goal goal =
-        let result = goal-outcome p valid limit label settled front v d budget first goal (omega (arith, counted, s .in-budget)) in
+        let result = goal-outcome p valid limit label settled front v d budget first goal (omega (arith, counted, searching .in-budget)) in
         let cost : query p limit budget .cost ≡ count = result .1 ∙ counted in
         record {
-          same-map = s .same-map;
+          same-map = searching .same-map;
           ready = ready;
           spent = λ t. absurd (false≢true t);
           cut = λ t. absurd (false≢true t);
-          lasts = λ t. omega (arith, cost, s .lasts);
+          lasts = λ t. omega (arith, cost, searching .lasts);
           outcome = λ t. sym (result .0);
           count = λ t. sym cost;
           found = λ t q. record {
@@ -156,36 +158,36 @@ module _ {n m arcs start limit budget left : ℕ} {w₀ : List ℕ} {hand : ℕ}
             is-first = goal-found p valid limit label settled front v d first goal;
             label = first .is-labelled;
             agrees = labels-agree;
-            label-below = label-below under;
+            label-below = label-below s under;
           };
         }
 
     -- it is none, and the budget is used up
-    pub answered-over : (IsGoal (problemAt n start w₀) v → ⊥) → count ≡ budget
-        → Answered n m start limit budget left w₀ w (record { spent = false; outcome = Over; count = count; place = 0 })
+    pub answered-over : (IsGoal (problemAt s w₀) v → ⊥) → count ≡ budget
+        → Answered s limit budget left w₀ w (record { spent = false; outcome = Over; count = count; place = 0 })
     unfolding p
     answered-over no-goal b =
         let result = over-outcome p valid limit label settled front v d budget first no-goal (counted ∙ b) in
         record {
-          same-map = s .same-map;
+          same-map = searching .same-map;
           ready = ready;
           spent = λ t. absurd (false≢true t);
           cut = λ t. absurd (false≢true t);
-          lasts = λ t. omega (arith, result .1, s .lasts);
+          lasts = λ t. omega (arith, result .1, searching .lasts);
           outcome = λ t. sym (result .0);
           count = λ t. b ∙ sym (result .1);
           found = λ t q. absurd (let z : _≡_ {A = ℕ} 0 1 = cc in omega arith);
         }
 
     -- it is none, the budget is not used up, and what is left of the allowance is
-    pub answered-spent : (IsGoal (problemAt n start w₀) v → ⊥) → (count ≡ budget → ⊥) → count ≡ left
-        → Answered n m start limit budget left w₀ w (record { spent = true; outcome = Over; count = count; place = 0 })
+    pub answered-spent : (IsGoal (problemAt s w₀) v → ⊥) → (count ≡ budget → ⊥) → count ≡ left
+        → Answered s limit budget left w₀ w (record { spent = true; outcome = Over; count = count; place = 0 })
     unfolding p
     answered-spent no-goal b l =
         record {
-          same-map = s .same-map;
+          same-map = searching .same-map;
           ready = ready;
-          spent = λ t. spent-cost p valid limit label settled front v d budget left first no-goal (counted ∙ l) (omega (arith, s .in-budget));
+          spent = λ t. spent-cost p valid limit label settled front v d budget left first no-goal (counted ∙ l) (omega (arith, searching .in-budget));
           cut = λ t. l;
           lasts = λ t. absurd (false≢true (sym t));
           outcome = λ t. absurd (false≢true (sym t));

@@ -2,7 +2,7 @@
 use mathlib.Core.Path.{_≡_, sym, _∙_}
 use mathlib.Core.Logic.{_⊎_, inl, inr, ⊎-elim}
 use mathlib.Core.List.{List}
-use Prim.Native.Nat.{ℕ, _+_, _*_, _<_}
+use Prim.Native.Nat.{ℕ, _<_}
 use native.Mathlib.Omega.{arith}
 use native.Mathlib.Decide.{ℕ-discrete}
 use lib.ListN.{length, getD, set}
@@ -10,43 +10,43 @@ use lib.Seq.{getD-set-same, getD-set-other}
 use Rattle.open_list.specs.Entry.{noKey}
 use Rattle.open_list.specs.Keys.{OpenList}
 use Rattle.open_list.proofs.Laws.{keys-length}
-use Rattle.scans.specs.Area.{openWords, keys}
+use Rattle.layout.specs.Regions.{labelWord}
+use Rattle.query.specs.Open.{openWords, keys}
 use Rattle.query.specs.State.{Coherent}
 
-pub coherent-length : {n m hand : ℕ} {w : List ℕ} → Coherent n m hand w → length (keys n m hand w) ≡ 7 * m + 1
+pub coherent-length : {n hand : ℕ} {w : List ℕ} → Coherent n hand w → length (keys n hand w) ≡ n
 unfolding keys
-coherent-length {n} {m} {hand} {w} c = keys-length m hand (openWords n m w) (c .list)
+coherent-length {n} {hand} {w} c = keys-length n hand (openWords n w) (c .list)
 
 -- The key of place v is set to k: none, or the label of v. No other label has changed.
-pub record KeySet (n m hand : ℕ) (w : List ℕ) (v k hand′ : ℕ) (w′ : List ℕ) : Type 0 where
-  pub coherent : Coherent n m hand w
+pub record KeySet (n hand : ℕ) (w : List ℕ) (v k hand′ : ℕ) (w′ : List ℕ) : Type 0 where
+  pub coherent : Coherent n hand w
   pub place : v < n
-  pub keys-set : keys n m hand′ w′ ≡ set (keys n m hand w) v k
-  pub list : OpenList m hand′ (openWords n m w′)
+  pub keys-set : keys n hand′ w′ ≡ set (keys n hand w) v k
+  pub list : OpenList n hand′ (openWords n w′)
   pub same-length : length w′ ≡ length w
-  pub other-labels : (u : ℕ) → u < n → (u ≡ v → ⊥) → getD w′ u 0 ≡ getD w u 0
-  pub label : (k ≡ noKey) ⊎ (k ≡ getD w′ v 0)
+  pub other-labels : (u : ℕ) → u < n → (u ≡ v → ⊥) → labelWord w′ u ≡ labelWord w u
+  pub label : (k ≡ noKey) ⊎ (k ≡ labelWord w′ v)
 
-module _ {n m hand : ℕ} {w : List ℕ} {v k hand′ : ℕ} {w′ : List ℕ} (s : KeySet n m hand w v k hand′ w′) where
-  pub own-key : getD (keys n m hand′ w′) v 0 ≡ k
+module _ {n hand : ℕ} {w : List ℕ} {v k hand′ : ℕ} {w′ : List ℕ} (s : KeySet n hand w v k hand′ w′) where
+  pub own-key : getD (keys n hand′ w′) v 0 ≡ k
   own-key =
       rw (s .keys-set)
-      (getD-set-same (keys n m hand w) v k 0 (omega (arith, s .place, s .coherent .room .enough .keys, coherent-length (s .coherent))))
+      (getD-set-same (keys n hand w) v k 0 (omega (arith, s .place, coherent-length (s .coherent))))
 
-  pub other-key : (u : ℕ) → (u ≡ v → ⊥) → getD (keys n m hand′ w′) u 0 ≡ getD (keys n m hand w) u 0
-  other-key u q = rw (s .keys-set) (getD-set-other (keys n m hand w) v u k 0 q)
+  pub other-key : (u : ℕ) → (u ≡ v → ⊥) → getD (keys n hand′ w′) u 0 ≡ getD (keys n hand w) u 0
+  other-key u q = rw (s .keys-set) (getD-set-other (keys n hand w) v u k 0 q)
 
-  pub still-coherent : Coherent n m hand′ w′
+  pub still-coherent : Coherent n hand′ w′
   still-coherent =
-      let room = s .coherent .room in
+      let regions = s .coherent .regions in
       record {
-        room = record { few = room .few; enough = room .enough; words = omega (arith, room .words, s .same-length) };
+        regions = record { few = regions .few; room = omega (arith, regions .room, s .same-length) };
         list = s .list;
         key-label = λ u h. go u h (ℕ-discrete u v);
-        beyond = λ u h l. other-key u (λ q. omega (arith, s .place)) ∙ s .coherent .beyond u h l;
       }
     where
-      go : (u : ℕ) → u < n → Dec (u ≡ v) → (getD (keys n m hand′ w′) u 0 ≡ noKey) ⊎ (getD (keys n m hand′ w′) u 0 ≡ getD w′ u 0)
+      go : (u : ℕ) → u < n → Dec (u ≡ v) → (getD (keys n hand′ w′) u 0 ≡ noKey) ⊎ (getD (keys n hand′ w′) u 0 ≡ labelWord w′ u)
       go u h (yes q) = rw q (⊎-elim (λ e. inl (own-key ∙ e)) (λ e. inr (own-key ∙ e)) (s .label))
       go u h (no q) =
           let key = other-key u q in

@@ -1,54 +1,70 @@
 -- One turn of a query's search: the first open place is closed and its arcs are relaxed, and the search is still under way.
 -- Assumes nothing.
-use mathlib.Core.Path.{_≡_, refl, sym, ap, subst, _∙_}
+use mathlib.Core.Path.{_≡_, refl, sym, ap, _∙_}
 use mathlib.Core.Logic.{_⊎_, inl, inr, ⊎-elim}
 use mathlib.Core.Bool.{true}
 use mathlib.Core.List.{List}
-use mathlib.Core.Option.{Option, some}
+use mathlib.Core.Option.{some}
 use Prim.Native.Nat.{ℕ, _+_, _^_, _≤_, _<_}
 use native.Mathlib.Omega.{arith}
 use native.Mathlib.Decide.{ℕ-discrete, decLt}
-use lib.ListN.{length, getD}
+use lib.ListN.{length, getD, drop}
+use Rattle.area.proofs.Parts.{same-before}
 use Rattle.open_list.specs.Entry.{noKey}
-use Rattle.map.specs.Layout.{arcsAt, rowStart, rowEnd, arcIn, Holds, problemAt}
+use Rattle.map.specs.declared.Site.{Site}
+use Rattle.layout.specs.Regions.{endsAt, labelWord, arcWord}
+use Rattle.layout.specs.Map.{rowStart, rowEnd, arcIn, problemAt, Holds}
+use Rattle.layout.specs.Labels.{noWord, labels}
+use Rattle.layout.proofs.Held.{problem-same, holds-same, arc-at, at-arc, estimate-word}
+use Rattle.layout.proofs.Labels.{HasLabel, label-is, is-label, at-most, labels-kept}
 use Rattle.model.specs.Problem.{Arc, IsArc, IsGoal}
 use Rattle.model.specs.Costs.{costAt}
 use Rattle.model.specs.Terms.{AtMost}
+use Rattle.model.proofs.Lists.{not-true-false}
 use Rattle.model.proofs.Same.{bool-ext}
 use Rattle.query.specs.Front.{FirstOpen, Expanded, also}
-use Rattle.scans.specs.Area.{labels, keys, settledAt}
+use Rattle.query.specs.Open.{keys, settledAt}
 use Rattle.query.specs.Query.{Askable}
-use Rattle.query.specs.State.{Coherent, Settles, Settled, ByArcs, Fell, Relaxed, Expands, Searching}
+use Rattle.query.specs.State.{Coherent, Settles, Settled, ByRow, Fell, Relaxed, Expands, Searching}
+use Rattle.query.proofs.Open.{settled-is, is-settled}
 use Rattle.query.proofs.Settling.{also-same, also-other, keeps-label, next-front}
 use Rattle.query.proofs.Counting.{count-also, count-at-most}
-use Rattle.scans.proofs.Words.{not-true-false, HasLabel, label-word, label-beyond, label-is, is-label, at-most, settled-is, is-settled}
-use Rattle.map.proofs.Held.{problem-same, holds-same, arc-at, at-arc, estimate-word}
 use Rattle.query.proofs.Regions.{listed-same, map-same}
 use Rattle.query.proofs.Listing.{lists-same, lists-also}
 use Rattle.query.proofs.Coherence.{KeySet, own-key, other-key, still-coherent}
 use Rattle.query.proofs.QueryUnderway.{label-below, Taken}
 
 -- a place with the same label and the same key is settled or not as before
-settled-same : (n m h₀ : ℕ) (w₀ : List ℕ) (h : ℕ) (w : List ℕ) (v : ℕ) → (v < n → getD w v 0 ≡ getD w₀ v 0) → getD (keys n m h w) v 0 ≡ getD (keys n m h₀ w₀) v 0
-    → settledAt n m h w v ≡ settledAt n m h₀ w₀ v
-settled-same n m h₀ w₀ h w v label key =
-    bool-ext (settledAt n m h w v) (settledAt n m h₀ w₀ v)
-    (λ t. let s = settled-is n m h w v t in is-settled n m h₀ w₀ v (record { place = s .place; label = λ q. s .label (label (s .place) ∙ q); key = sym key ∙ s .key }))
-    (λ t. let s = settled-is n m h₀ w₀ v t in is-settled n m h w v (record { place = s .place; label = λ q. s .label (sym (label (s .place)) ∙ q); key = key ∙ s .key }))
+settled-same : (n h₀ : ℕ) (w₀ : List ℕ) (h : ℕ) (w : List ℕ) (v : ℕ) → (v < n → labelWord w v ≡ labelWord w₀ v)
+    → getD (keys n h w) v 0 ≡ getD (keys n h₀ w₀) v 0 → settledAt n h w v ≡ settledAt n h₀ w₀ v
+settled-same n h₀ w₀ h w v label key =
+    bool-ext (settledAt n h w v) (settledAt n h₀ w₀ v) (to h w h₀ w₀ label key) (to h₀ w₀ h w (λ l. sym (label l)) (sym key))
+  where
+    to : (h : ℕ) (w : List ℕ) (h′ : ℕ) (w′ : List ℕ) → (v < n → labelWord w v ≡ labelWord w′ v)
+        → getD (keys n h w) v 0 ≡ getD (keys n h′ w′) v 0 → settledAt n h w v ≡ true → settledAt n h′ w′ v ≡ true
+    to h w h′ w′ label key t =
+        let s = settled-is n h w v t in
+        is-settled n h′ w′ v (record { place = s .place; label = λ q. s .label (label (s .place) ∙ q); key = sym key ∙ s .key })
 
 -- the arcs of u, labelled d, are those of its row: once they are relaxed, u is expanded
-module _ (n m arcs start limit u d h₀ : ℕ) (w₀ : List ℕ) (holds : Holds n arcs start w₀) (place : u < n) (small : limit < 2 ^ 30)
-    (h : ℕ) (w : List ℕ) (r : Relaxed n m (ByArcs n limit d (rowStart n w₀ u) (rowEnd n w₀ u) w₀) h₀ w₀ h w) (len : length w ≡ length w₀) where
-  room : n ≤ length w
-  room = omega (arith, r .coherent .room .words)
+module _ (s : Site) (limit u d h₀ : ℕ) (w₀ : List ℕ) (holds : Holds s w₀) (place : u < s .places) (small : limit < 2 ^ 30)
+    (h : ℕ) (w : List ℕ) (r : Relaxed (s .places) (ByRow (s .places) limit d u w₀) h₀ w₀ h w) where
+  abbrev n : ℕ
+  n = s .places
 
-  row-reached : (a : Arc) → IsArc (problemAt n start w₀) a → a .from ≡ u → d + a .cost + problemAt n start w₀ .estimate (a .to) ≤ limit
+  room : n ≤ length w
+  room = omega (arith, r .coherent .regions .room)
+
+  room₀ : n ≤ length w₀
+  room₀ = omega (arith, room, r .same-length)
+
+  row-reached : (a : Arc) → IsArc (problemAt s w₀) a → a .from ≡ u → d + a .cost + problemAt s w₀ .estimate (a .to) ≤ limit
       → AtMost (costAt (labels n w) (a .to)) (d + a .cost)
   unfolding problemAt
   row-reached a i f l =
-      let at = arc-at n w₀ start a i in
+      let at = arc-at s w₀ a i in
       let to : a .to < n = holds .valid .arc-to a i in
-      let estimate = estimate-word n w₀ start (a .to) to in
+      let estimate = estimate-word s w₀ (a .to) to in
       let reached = r .reached (a .to) (d + a .cost) to
       (record {
         number = at .number;
@@ -60,172 +76,164 @@ module _ (n m arcs start limit u d h₀ : ℕ) (w₀ : List ℕ) (holds : Holds 
 
   row-sound : (v y : ℕ) → costAt (labels n w) v ≡ some y
       → (costAt (labels n w₀) v ≡ some y)
-      ⊎ ((a : Arc) × IsArc (problemAt n start w₀) a × (a .from ≡ u) × (a .to ≡ v) × (d + a .cost ≡ y) × (y + problemAt n start w₀ .estimate v ≤ limit))
+      ⊎ ((a : Arc) × IsArc (problemAt s w₀) a × (a .from ≡ u) × (a .to ≡ v) × (d + a .cost ≡ y) × (y + problemAt s w₀ .estimate v ≤ limit))
   unfolding arcIn
   row-sound v y e =
       let l = label-is n w room v y e in
-      let estimate = estimate-word n w₀ start v (l .place) in
-      ⊎-elim
-      (λ s. inl (is-label n w₀ (omega arith) v y (record { place = l .place; word = sym (s .label) ∙ l .word; some = l .some })))
+      let estimate = estimate-word s w₀ v (l .place) in
+      ⊎-elim (λ t. inl (is-label n w₀ room₀ v y (record { place = l .place; word = sym (t .label) ∙ l .word; some = l .some })))
       (λ f.
       let by = f .by .by in
-      let arc = at-arc n w₀ arcs start holds u (f .by .number) place (f .by .from) (f .by .before) in
-      inr (arcIn u (getD w₀ (arcsAt n + f .by .number) 0), arc, refl, by .ends, by .sum ∙ l .word, omega (arith, by .within, l .word)))
+      let arc = at-arc s w₀ holds u (f .by .number) place (f .by .from) (f .by .before) in
+      inr (arcIn u (arcWord n w₀ (f .by .number)), arc, refl, by .ends, by .sum ∙ l .word, omega (arith, by .within, l .word)))
       (r .moved v (l .place))
 
   row-kept : (v y : ℕ) → AtMost (costAt (labels n w₀) v) y → AtMost (costAt (labels n w) v) y
   row-kept v y a =
-      let l = label-is n w₀ (omega arith) v (a .cost) (a .is) in
+      let l = label-is n w₀ room₀ v (a .cost) (a .is) in
       ⊎-elim
-      (λ s. record { cost = a .cost; is = is-label n w room v (a .cost) (record { place = l .place; word = s .label ∙ l .word; some = l .some }); below = a .below })
-      (λ f. record {
-        cost = getD w v 0;
-        is = is-label n w room v (getD w v 0) (record { place = l .place; word = refl; some = λ q. omega (arith, f .by .by .within) });
-        below = omega (arith, f .lower, l .word, a .below);
-      })
+      (λ t.
+      let is = is-label n w room v (a .cost) (record { place = l .place; word = t .label ∙ l .word; some = l .some }) in
+      record { cost = a .cost; is = is; below = a .below })
+      (λ f.
+      let is = is-label n w room v (labelWord w v) (record { place = l .place; word = refl; some = λ q. omega (arith, f .by .by .within) }) in
+      record { cost = labelWord w v; is = is; below = omega (arith, f .lower, l .word, a .below) })
       (r .moved v (l .place))
 
-  pub row-expanded : Expanded (problemAt n start w₀) limit u d (λ v. costAt (labels n w₀) v) (λ v. costAt (labels n w) v)
+  row-expanded : Expanded (problemAt s w₀) limit u d (λ v. costAt (labels n w₀) v) (λ v. costAt (labels n w) v)
   row-expanded = record { kept = row-kept; reached = row-reached; sound = row-sound }
 
 -- v is settled, and the words are w₁
-module _ (n m hand count v : ℕ) (w : List ℕ) (coherent : Coherent n m hand w) (place : v < n) (hand₁ : ℕ) (w₁ : List ℕ)
-    (c : Settled n m count v hand w hand₁ w₁) (len : length w₁ ≡ length w) where
-  key-set : KeySet n m hand w v noKey hand₁ w₁
+module _ (n hand count v : ℕ) (w : List ℕ) (coherent : Coherent n hand w) (place : v < n) (hand₁ : ℕ) (w₁ : List ℕ)
+    (c : Settled n count v hand w hand₁ w₁) where
+  label-same : (u : ℕ) → u < n → labelWord w₁ u ≡ labelWord w u
+  label-same u h = same-before n w w₁ u (c .kept .same-labels) h
+
+  key-set : KeySet n hand w v noKey hand₁ w₁
   key-set =
       record {
         coherent = coherent;
         place = place;
         keys-set = c .keys-set;
         list = c .list;
-        same-length = len;
-        other-labels = λ u h q. c .label u h;
+        same-length = c .kept .same-length;
+        other-labels = λ u h q. label-same u h;
         label = inl refl;
       }
 
   -- a labelled place that is settled is so besides those that were
-  settled-also : (getD w v 0 ≡ noKey → ⊥) → (u : ℕ) → settledAt n m hand₁ w₁ u ≡ also (settledAt n m hand w) v u
+  settled-also : (labelWord w v ≡ noWord → ⊥) → (u : ℕ) → settledAt n hand₁ w₁ u ≡ also (settledAt n hand w) v u
   settled-also l u = go (ℕ-discrete u v)
     where
-      go : Dec (u ≡ v) → settledAt n m hand₁ w₁ u ≡ also (settledAt n m hand w) v u
+      go : Dec (u ≡ v) → settledAt n hand₁ w₁ u ≡ also (settledAt n hand w) v u
       go (yes q) =
-          let settled = is-settled n m hand₁ w₁ v (record { place = place; label = λ e. l (sym (c .label v place) ∙ e); key = own-key key-set }) in
-          rw q settled ∙ sym (also-same (settledAt n m hand w) v u q)
-      go (no q) = settled-same n m hand w hand₁ w₁ u (c .label u) (other-key key-set u q) ∙ sym (also-other (settledAt n m hand w) v u q)
+          let label : labelWord w₁ v ≡ noWord → ⊥ = λ e. l (sym (label-same v place) ∙ e) in
+          let settled = is-settled n hand₁ w₁ v (record { place = place; label = label; key = own-key key-set }) in
+          rw q settled ∙ sym (also-same (settledAt n hand w) v u q)
+      go (no q) = settled-same n hand w hand₁ w₁ u (label-same u) (other-key key-set u q) ∙ sym (also-other (settledAt n hand w) v u q)
 
-  settled-label : (u : ℕ) → costAt (labels n w₁) u ≡ costAt (labels n w) u
-  settled-label u = go (decLt u n)
-    where
-      before : n ≤ length w
-      before = omega (arith, coherent .room .words)
+module _ {s : Site} {limit budget left : ℕ} {w₀ : List ℕ} {hand : ℕ} {w : List ℕ} {count v d : ℕ}
+    (t : Taken s limit budget left w₀ hand w count v d) where
+  abbrev places : ℕ
+  places = s .places
 
-      after : n ≤ length w₁
-      after = omega arith
-
-      go : Dec (u < n) → costAt (labels n w₁) u ≡ costAt (labels n w) u
-      go (yes h) = label-word n w₁ after u h ∙ rw (c .label u h) (sym (label-word n w before u h))
-      go (no h) = label-beyond n w₁ after u (omega arith) ∙ sym (label-beyond n w before u (omega arith))
-
-module _ {n m arcs start limit budget left : ℕ} {w₀ : List ℕ} {hand : ℕ} {w : List ℕ} {count v d : ℕ} (t : Taken n m arcs start limit budget left w₀ hand w count v d) where
-  ask : Askable n m arcs start limit w₀
+  ask : Askable s limit w₀
   ask = t .under .ask
 
-  s : Searching n m start limit budget left w₀ hand w count
-  s = t .under .search
+  searching : Searching s limit budget left w₀ hand w count
+  searching = t .under .search
 
-  f : FirstOpen (λ u. costAt (labels n w) u) (settledAt n m hand w) v d
+  f : FirstOpen (λ u. costAt (labels places w) u) (settledAt places hand w) v d
   f = t .first
 
-  first-label : HasLabel n w v d
-  first-label = label-is n w (omega (arith, s .coherent .room .words)) v d (f .is-labelled)
+  words : places ≤ length w
+  words = omega (arith, searching .coherent .regions .room)
 
-  pub count-below : count < n
+  first-label : HasLabel places w v d
+  first-label = label-is places w words v d (f .is-labelled)
+
+  pub count-below : count < places
   count-below =
-      let more = count-also (settledAt n m hand w) v n (t .place) (f .is-open) in
-      omega (arith, s .counted, count-at-most (also (settledAt n m hand w) v) n)
+      let more = count-also (settledAt places hand w) v places (t .place) (f .is-open) in
+      omega (arith, searching .counted, count-at-most (also (settledAt places hand w) v) places)
 
-  pub turn-settles : Settles n m hand count v w
-  turn-settles = record { coherent = s .coherent; place = t .place; more = count-below }
+  pub turn-settles : Settles places hand count v w
+  turn-settles = record { coherent = searching .coherent; place = t .place; more = count-below }
 
-  module _ (hand₁ : ℕ) (w₁ : List ℕ) (c : Settled n m count v hand w hand₁ w₁) (len : length w₁ ≡ length w) where
-    word-some : getD w v 0 ≡ noKey → ⊥
-    word-some q = first-label .some (sym (first-label .word) ∙ q)
+  module _ (hand₁ : ℕ) (w₁ : List ℕ) (c : Settled places count v hand w hand₁ w₁) where
+    same-map : drop (endsAt places) w₁ ≡ drop (endsAt places) w₀
+    same-map = c .kept .same-map ∙ searching .same-map
 
-    holds₁ : Holds n arcs start w₁
-    holds₁ = holds-same n w₁ w₀ (c .same-map ∙ s .same-map) arcs start (len ∙ s .same-length) (ask .holds)
+    holds₁ : Holds s w₁
+    holds₁ = holds-same s w₁ w₀ same-map (c .kept .same-length ∙ searching .same-length) (ask .holds)
 
-    pub turn-expands : Expands n m hand₁ v d w₁
+    pub turn-expands : Expands s hand₁ v d w₁
     turn-expands =
         record {
-          coherent = still-coherent (key-set n m hand count v w (s .coherent) (t .place) hand₁ w₁ c len);
-          place = t .place;
-          label-below = label-below (t .under) v d (f .is-labelled);
-          arcs = arcs;
-          start = start;
           holds = holds₁;
+          coherent = still-coherent (key-set places hand count v w (searching .coherent) (t .place) hand₁ w₁ c);
+          place = t .place;
+          label-below = label-below s (t .under) v d (f .is-labelled);
         }
 
-    module _ (no-goal : IsGoal (problemAt n start w₀) v → ⊥) (hand₂ : ℕ) (w₂ : List ℕ)
-        (r : Relaxed n m (ByArcs n limit d (rowStart n w₁ v) (rowEnd n w₁ v) w₁) hand₁ w₁ hand₂ w₂) (len₂ : length w₂ ≡ length w₁) where
-      expanded : Expanded (problemAt n start w₀) limit v d (λ u. costAt (labels n w) u) (λ u. costAt (labels n w₂) u)
+    module _ (no-goal : IsGoal (problemAt s w₀) v → ⊥) (hand₂ : ℕ) (w₂ : List ℕ)
+        (r : Relaxed places (ByRow places limit d v w₁) hand₁ w₁ hand₂ w₂) where
+      expanded : Expanded (problemAt s w₀) limit v d (λ u. costAt (labels places w) u) (λ u. costAt (labels places w₂) u)
       expanded =
-          let same-labels : _≡_ {A = ℕ → Option ℕ} (λ u. costAt (labels n w₁) u) (λ u. costAt (labels n w) u) =
-          λ i u. settled-label n m hand count v w (s .coherent) (t .place) hand₁ w₁ c len u i in
-          let same = problem-same n w₁ w₀ (c .same-map ∙ s .same-map) start in
-          let row = row-expanded n m arcs start limit v d hand₁ w₁ holds₁ (t .place) (ask .limit-below) hand₂ w₂ r len₂ in
-          subst (λ (l : ℕ → Option ℕ). Expanded (problemAt n start w₀) limit v d l (λ u. costAt (labels n w₂) u)) same-labels (rw same at row)
+          rw (problem-same s w₁ w₀ same-map, labels-kept places w w₁ (c .kept))
+          at (row-expanded s limit v d hand₁ w₁ holds₁ (t .place) (ask .limit-below) hand₂ w₂ r)
 
-      settled₁ : (u : ℕ) → settledAt n m hand₁ w₁ u ≡ also (settledAt n m hand w) v u
-      settled₁ = settled-also n m hand count v w (s .coherent) (t .place) hand₁ w₁ c len word-some
+      settled₁ : (u : ℕ) → settledAt places hand₁ w₁ u ≡ also (settledAt places hand w) v u
+      settled₁ =
+          let word-some : labelWord w v ≡ noWord → ⊥ = λ q. first-label .some (sym (first-label .word) ∙ q) in
+          settled-also places hand count v w (searching .coherent) (t .place) hand₁ w₁ c word-some
 
       -- a label that has fallen is that of a place that was not settled, nor is v
-      fell-open : (u : ℕ) → Fell n m (ByArcs n limit d (rowStart n w₁ v) (rowEnd n w₁ v) w₁) w₁ hand₂ w₂ u → u < n → also (settledAt n m hand w) v u ≡ true → ⊥
-      fell-open u g h t =
+      fell-open : (u : ℕ) → Fell places (ByRow places limit d v w₁) w₁ hand₂ w₂ u → u < places → also (settledAt places hand w) v u ≡ true → ⊥
+      fell-open u g h a =
           let x = labelled (ℕ-discrete u v) in
-          let keeps = keeps-label (problemAt n start w₀) (ask .holds .valid) limit (λ u. costAt (labels n w) u) (settledAt n m hand w) (s .front) v d f
-          (λ u. costAt (labels n w₂) u) expanded u (x .0) t (x .1) in
-          let before = label-is n w (omega (arith, s .coherent .room .words)) u (x .0) (x .1) in
-          let after = label-is n w₂ (omega (arith, r .coherent .room .words)) u (x .0) keeps in
-          omega (arith, g .lower, c .label u h, before .word, after .word)
+          let keeps = keeps-label (problemAt s w₀) (ask .holds .valid) limit (λ u. costAt (labels places w) u) (settledAt places hand w)
+          (searching .front) v d f (λ u. costAt (labels places w₂) u) expanded u (x .0) a (x .1) in
+          let before = label-is places w words u (x .0) (x .1) in
+          let after = label-is places w₂ (omega (arith, r .coherent .regions .room)) u (x .0) keeps in
+          omega (arith, g .lower, same-before places w w₁ u (c .kept .same-labels) h, before .word, after .word)
         where
-          labelled : Dec (u ≡ v) → (y : ℕ) × (costAt (labels n w) u ≡ some y)
+          labelled : Dec (u ≡ v) → (y : ℕ) × (costAt (labels places w) u ≡ some y)
           labelled (yes q) = (d, rw q (f .is-labelled))
-          labelled (no q) = s .front .labelled u (sym (also-other (settledAt n m hand w) v u q) ∙ t)
+          labelled (no q) = searching .front .labelled u (sym (also-other (settledAt places hand w) v u q) ∙ a)
 
-      settled₂ : (u : ℕ) → settledAt n m hand₂ w₂ u ≡ also (settledAt n m hand w) v u
-      settled₂ u = go (decLt u n)
+      settled₂ : (u : ℕ) → settledAt places hand₂ w₂ u ≡ also (settledAt places hand w) v u
+      settled₂ u = go (decLt u places)
         where
-          go : Dec (u < n) → settledAt n m hand₂ w₂ u ≡ also (settledAt n m hand w) v u
+          go : Dec (u < places) → settledAt places hand₂ w₂ u ≡ also (settledAt places hand w) v u
           go (yes h) =
-              ⊎-elim
-              (λ t. settled-same n m hand₁ w₁ hand₂ w₂ u (λ z. t .label) (t .key) ∙ settled₁ u)
+              ⊎-elim (λ z. settled-same places hand₁ w₁ hand₂ w₂ u (λ l. z .label) (z .key) ∙ settled₁ u)
               (λ g.
-              let is-open = not-true-false (settledAt n m hand₂ w₂ u) (λ t. let z = settled-is n m hand₂ w₂ u t in z .label (sym (g .key) ∙ z .key)) in
-              is-open ∙ sym (not-true-false (also (settledAt n m hand w) v u) (fell-open u g h)))
+              let is-open = not-true-false (settledAt places hand₂ w₂ u)
+              (λ a. let z = settled-is places hand₂ w₂ u a in z .label (sym (g .key) ∙ z .key)) in
+              is-open ∙ sym (not-true-false (also (settledAt places hand w) v u) (fell-open u g h)))
               (r .moved u h)
           go (no h) =
-              let never = not-true-false (settledAt n m hand₂ w₂ u) (λ t. h (settled-is n m hand₂ w₂ u t .place)) in
-              let unsettled = not-true-false (settledAt n m hand₁ w₁ u) (λ t. h (settled-is n m hand₁ w₁ u t .place)) in
+              let never = not-true-false (settledAt places hand₂ w₂ u) (λ a. h (settled-is places hand₂ w₂ u a .place)) in
+              let unsettled = not-true-false (settledAt places hand₁ w₁ u) (λ a. h (settled-is places hand₁ w₁ u a .place)) in
               never ∙ sym unsettled ∙ settled₁ u
 
-      pub searching-on : (count ≡ budget → ⊥) → (count ≡ left → ⊥) → Searching n m start limit budget left w₀ hand₂ w₂ (count + 1)
+      pub searching-on : (count ≡ budget → ⊥) → (count ≡ left → ⊥) → Searching s limit budget left w₀ hand₂ w₂ (count + 1)
       searching-on b l =
-          let same : settledAt n m hand₂ w₂ ≡ also (settledAt n m hand w) v = λ i u. settled₂ u i in
-          let more = count-also (settledAt n m hand w) v n (t .place) (f .is-open) in
-          let listed = listed-same n w₁ w₂ (r .same-rest) in
+          let same : settledAt places hand₂ w₂ ≡ also (settledAt places hand w) v = λ i u. settled₂ u i in
+          let more = count-also (settledAt places hand w) v places (t .place) (f .is-open) in
+          let listed = listed-same places w₁ w₂ (r .same-rest) in
+          let front = next-front (problemAt s w₀) (ask .holds .valid) limit (λ u. costAt (labels places w) u) (settledAt places hand w)
+          (searching .front) v d f (λ u. costAt (labels places w₂) u) expanded no-goal in
+          let list = lists-also places count v (settledAt places hand w) w w₂ count-below (listed count ∙ c .listed)
+          (λ i h. listed i ∙ c .listed-before i h) (searching .listed) in
           record {
-            same-map = map-same n w₁ w₂ (r .same-rest) ∙ c .same-map ∙ s .same-map;
-            same-length = len₂ ∙ len ∙ s .same-length;
+            same-map = map-same places w₁ w₂ (r .same-rest) ∙ same-map;
+            same-length = r .same-length ∙ c .kept .same-length ∙ searching .same-length;
             coherent = r .coherent;
-            front =
-                rw same
-                (next-front (problemAt n start w₀) (ask .holds .valid) limit (λ u. costAt (labels n w) u) (settledAt n m hand w) (s .front) v d f
-                (λ u. costAt (labels n w₂) u) expanded no-goal);
-            counted = rw same (omega (arith, s .counted));
-            listed =
-                lists-same (λ u e. settled₂ u ∙ e) (λ u e. sym (settled₂ u) ∙ e)
-                (lists-also n count v (settledAt n m hand w) w w₂ count-below (listed count ∙ c .listed) (λ i h. listed i ∙ c .listed-before i h)
-                (s .listed));
-            in-budget = omega (arith, s .in-budget);
-            lasts = omega (arith, s .lasts);
+            front = rw same front;
+            counted = rw same (omega (arith, searching .counted));
+            listed = lists-same (λ u e. settled₂ u ∙ e) (λ u e. sym (settled₂ u) ∙ e) list;
+            in-budget = omega (arith, searching .in-budget);
+            lasts = omega (arith, searching .lasts);
           }

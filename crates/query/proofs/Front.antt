@@ -14,7 +14,7 @@ use Rattle.model.specs.Lists.{filter}
 use Rattle.model.specs.Problem.{Problem, IsGoal, Valid}
 use Rattle.model.specs.Paths.{stay, Within}
 use Rattle.model.specs.Costs.{costAt, table}
-use Rattle.model.specs.Query.{Key, within, precedes, firstGoal, lengthTo, nextLimit, ended, over, found, nothing, notOver, judge, queryOn, query}
+use Rattle.model.specs.Query.{Key, within, precedes, firstGoal, lengthTo, nextLimit, over, found, notOver, judge, queryOn, query}
 use Rattle.model.proofs.Lists.{none-some, filter-all, filter-fewer, filter-shorter}
 use Rattle.model.proofs.LeastCosts.{table-length, entry-path}
 use Rattle.model.proofs.Keys.{key, NotBefore, precedes-false, not-precedes, precedes-true, key-entry, IsFirstGoal, first-goal-some, first-goal-none}
@@ -175,7 +175,8 @@ module _ (p : Problem) (ok : Valid p) (C : ℕ) (label : ℕ → Option ℕ) (se
   over-outcome v d b f n h = query-over p C b (omega (arith, longer v d f n))
 
   -- The allowance left is used up, and the budget is not: the query costs more than is left.
-  pub spent-cost : (v d b left : ℕ) → FirstOpen label settled v d → (IsGoal p v → ⊥) → countBelow settled (p .places) ≡ left → left < b → left < query p C b .cost
+  pub spent-cost : (v d b left : ℕ) → FirstOpen label settled v d → (IsGoal p v → ⊥) → countBelow settled (p .places) ≡ left → left < b
+      → left < query p C b .cost
   spent-cost v d b left f n h l = go (decLe (queryLength p C) b)
     where
       go : Dec (queryLength p C ≤ b) → left < query p C b .cost
@@ -184,12 +185,11 @@ module _ (p : Problem) (ok : Valid p) (C : ℕ) (label : ℕ → Option ℕ) (se
 
   -- Nothing is open: the outcome is by the next limit, and the query costs what is settled.
   pub all-settled : (b : ℕ) → NoneOpen label settled → countBelow settled (p .places) ≤ b
-      → (query p C b .cost ≡ countBelow settled (p .places))
-      × (((x : ℕ) → nextLimit p (table p C) ≡ some x → query p C b .outcome ≡ ended x) × (nextLimit p (table p C) ≡ none → query p C b .outcome ≡ nothing))
-  unfolding lengthTo notOver
+      → (query p C b .cost ≡ countBelow settled (p .places)) × (query p C b .outcome ≡ notOver none (nextLimit p (table p C)))
+  unfolding lengthTo
   all-settled b none-open h =
       let result = query-not-over p C b (omega (arith, counted)) in
-      (result .1 ∙ counted, (λ x e. result .0 ∙ rw (no-goal-within, e), λ e. result .0 ∙ rw (no-goal-within, e)))
+      (result .1 ∙ counted, result .0 ∙ rw no-goal-within)
     where
       within-settled : (v d : ℕ) → costAt (table p C) v ≡ some d → settled v ≡ true
       within-settled v d e = none-open v d (labels-are-table none-open v ∙ e)

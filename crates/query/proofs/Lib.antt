@@ -1,4 +1,5 @@
 -- Laws of a query underway, from the first place to its outcome.
+pub mod Open
 pub mod Settling
 pub mod Counting
 pub mod Front

@@ -6,7 +6,7 @@ use mathlib.Core.List.{List}
 use Prim.Native.Nat.{ℕ, _+_, _<_}
 use native.Mathlib.Omega.{arith}
 use native.Mathlib.Decide.{ℕ-discrete}
-use Rattle.scans.specs.Area.{listedAt, Lists}
+use Rattle.layout.specs.Labels.{listedAt, Lists}
 use Rattle.query.specs.Front.{also}
 use Rattle.query.proofs.Settling.{also-true, also-same}
 

@@ -1,250 +1,240 @@
 -- A query's search under way: how it begins, and what the first of the open list says of it. Assumes nothing.
 use mathlib.Core.Path.{_≡_, refl, sym, ap, _∙_}
 use mathlib.Core.Logic.{inl, inr, ⊎-elim}
-use mathlib.Core.Bool.{Bool, true, false}
+use mathlib.Core.Bool.{Bool, true, false, not}
 use mathlib.Core.List.{List}
-use mathlib.Core.Option.{some}
-use Prim.Native.Nat.{ℕ, _+_, _*_, _^_, _≤_, _<_}
+use mathlib.Core.Option.{Option, some}
+use Prim.Native.Nat.{ℕ, _^_, _≤_, _<_}
 use native.Mathlib.Omega.{arith}
 use native.Mathlib.Decide.{ℕ-discrete, decLt}
+use lib.Dec.{eqb}
 use lib.ListN.{length, getD, drop, getD-replicate}
+use borrow.Author.Tests.{eqb-true, eqb-false, not-true, not-false}
 use Rattle.area.specs.Part.{part}
 use Rattle.open_list.specs.Entry.{noKey}
-use Rattle.open_list.specs.Keys.{OpenList, Least, keysOf, emptyHand}
-use Rattle.open_list.specs.Size.{Places}
-use Rattle.map.specs.Layout.{endsAt, goalsAt, problemAt}
+use Rattle.open_list.specs.Keys.{OpenList, LeastKey, keysOf, emptyHand}
+use Rattle.map.specs.declared.Site.{Site}
+use Rattle.layout.specs.Regions.{openAt, parentsAt, endsAt, labelWord, goalWord, HasPlace}
+use Rattle.layout.specs.Map.{problemAt}
+use Rattle.layout.specs.Labels.{noWord, labels}
+use Rattle.layout.proofs.Held.{problem-same, holds-same, few-places, map-room, goal-mark, mark-goal}
+use Rattle.layout.proofs.Labels.{HasLabel, label-is, is-label}
 use Rattle.model.specs.Problem.{IsGoal}
 use Rattle.model.specs.Costs.{costAt}
+use Rattle.model.proofs.Lists.{not-true-false}
 use Rattle.model.proofs.LeastCosts.{end-below}
+use Rattle.scans.specs.Area.{Listed}
 use Rattle.query.specs.Front.{FirstOpen, NoneOpen}
-use Rattle.scans.specs.Area.{labels, openWords, keys, settledAt, Listed}
+use Rattle.query.specs.Open.{openWords, keys, settledAt}
 use Rattle.query.specs.Query.{Askable}
-use Rattle.query.specs.State.{Room, Clears, Blank, Arrives, Arrived, Searching}
+use Rattle.query.specs.State.{HasRegions, Clears, Blank, Arrives, Arrived, Searching}
+use Rattle.query.proofs.Open.{HasSettled, settled-is, is-settled}
 use Rattle.query.proofs.Settling.{not-both}
 use Rattle.query.proofs.Counting.{count-none}
 use Rattle.query.proofs.Front.{begin-front}
-use Rattle.scans.proofs.Words.{not-true-false, HasLabel, label-is, is-label, HasSettled, settled-is, is-settled}
-use Rattle.map.proofs.Held.{problem-same, holds-same, goal-mark, mark-goal}
-use Rattle.query.proofs.Regions.{openEnd, open-part, begun-map}
+use Rattle.query.proofs.Regions.{open-part, begun-map}
 use Rattle.query.proofs.Listing.{lists-same}
 use Rattle.query.proofs.Coherence.{coherent-length, KeySet, own-key, still-coherent}
 
-module _ (n m arcs start limit : ℕ) (w : List ℕ) (ask : Askable n m arcs start limit w) where
-  ask-places : Places n
-  unfolding problemAt
-  ask-places = record { some = ask .holds .valid .some-place; few = ask .holds .valid .few-places }
-
-  ask-start : start < n
-  unfolding problemAt
-  ask-start = ask .holds .valid .start-below
-
-  ask-room : (w′ : List ℕ) → length w′ ≡ length w → Room n m w′
-  ask-room w′ len = record { few = ask-places .few; enough = ask .ready .enough; words = omega (arith, ask .holds .room) }
-
-  pub ask-clears : Clears n m w
-  ask-clears = record { room = ask-room w refl; used = ask .ready .used }
-
-  -- words with the same map and an open list may be asked the same
-  pub ask-same : (w′ : List ℕ) → drop (endsAt n) w′ ≡ drop (endsAt n) w → length w′ ≡ length w → (hand : ℕ) → OpenList m hand (openWords n m w′)
-      → Askable n m arcs start limit w′
-  ask-same w′ same len hand list =
-      record {
-        holds = holds-same n w′ w same arcs start len (ask .holds);
-        ready = record { enough = ask .ready .enough; used = record { hand = hand; list = list } };
-        start-within = rw (problem-same n w′ w same start) (ask .start-within);
-        limit-below = ask .limit-below;
-      }
-
-  -- once the area is cleared, the start can be arrived at
-  pub start-arrives : (w′ : List ℕ) → Blank n m w w′ → length w′ ≡ length w → (hand : ℕ) → hand ≡ emptyHand → Arrives n m hand start 0 w′
-  start-arrives w′ b len hand q =
-      record {
-        room = ask-room w′ len;
-        place = ask-start;
-        lowers =
-            record {
-              list = rw q (b .none-open .list);
-              place-in = omega (arith, ask-start, ask .ready .enough .keys);
-              some = omega arith;
-              below = omega arith;
-            };
-      }
-
--- the start is labelled 0 and open, and no other place has a label
-module _ (n m arcs start limit : ℕ) (w₀ : List ℕ) (ask : Askable n m arcs start limit w₀) (w₁ : List ℕ) (b : Blank n m w₀ w₁)
-    (len₁ : length w₁ ≡ length w₀) (h₁ : ℕ) (empty : h₁ ≡ emptyHand) (hand : ℕ) (w : List ℕ)
-    (a : Arrived n m start 0 h₁ w₁ hand w) (len : length w ≡ length w₁) where
-  place : start < n
-  place = ask-start n m arcs start limit w₀ ask
-
-  no-key : (v : ℕ) → v < 7 * m + 1 → getD (keys n m h₁ w₁) v 0 ≡ noKey
-  unfolding keys
-  no-key v h = rw (empty, b .none-open .keys-none) (getD-replicate (7 * m + 1) v noKey 0 h)
-
-  key-set : KeySet n m h₁ w₁ start 0 hand w
-  key-set =
-      record {
-        coherent =
-            record {
-              room = ask-room n m arcs start limit w₀ ask w₁ len₁;
-              list = rw empty (b .none-open .list);
-              key-label = λ v h. inl (no-key v (omega (arith, ask .ready .enough .keys)));
-              beyond = λ v h k. no-key v k;
-            };
-        place = place;
-        keys-set = a .keys-set;
-        list = a .list;
-        same-length = len;
-        other-labels = a .other-labels;
-        label = inr (sym (a .label));
-      }
-
-  other-label : (v : ℕ) → v < n → (v ≡ start → ⊥) → getD w v 0 ≡ noKey
-  other-label v h q = a .other-labels v h q ∙ b .unlabelled v h
-
-  none-settled : (v : ℕ) → settledAt n m hand w v ≡ false
-  none-settled v = not-true-false (settledAt n m hand w v) never
-    where
-      never : settledAt n m hand w v ≡ true → ⊥
-      never t = go (settled-is n m hand w v t) (ℕ-discrete v start)
-        where
-          go : HasSettled n m hand w v → Dec (v ≡ start) → ⊥
-          go s (yes q) = omega (arith, s .key, own-key key-set, ap (λ (i : ℕ). getD (keys n m hand w) i 0) q)
-          go s (no q) = s .label (other-label v (s .place) q)
-
-  only-start : (v d : ℕ) → costAt (labels n w) v ≡ some d → (v ≡ start) × (d ≡ 0)
-  only-start v d e = go (label-is n w (omega (arith, ask .holds .room)) v d e) (ℕ-discrete v start)
-    where
-      go : HasLabel n w v d → Dec (v ≡ start) → (v ≡ start) × (d ≡ 0)
-      go l (yes q) = (q, omega (arith, l .word, a .label, ap (λ (i : ℕ). getD w i 0) q))
-      go l (no q) = absurd (l .some (omega (arith, l .word, other-label v (l .place) q)))
-
-  pub searching-starts : (budget left : ℕ) → Searching n m start limit budget left w hand w 0
-  unfolding problemAt
-  searching-starts budget left =
-      let same = begun-map b a in
-      let again = ask-same n m arcs start limit w₀ ask w same (len ∙ len₁) hand (a .list) in
-      let none : settledAt n m hand w ≡ (λ v. false) = λ i v. none-settled v i in
-      let label = is-label n w (omega (arith, ask .holds .room)) start 0 (record { place = place; word = a .label; some = λ q. omega arith }) in
-      record {
-        same-map = refl;
-        same-length = refl;
-        coherent = still-coherent key-set;
-        front = rw none (begin-front (problemAt n start w) limit (λ v. costAt (labels n w) v) (again .holds .valid) (again .start-within) label only-start);
-        counted = rw none (count-none n);
-        listed = record { few = omega arith; each = λ i l. absurd (omega arith); all = λ v t. absurd (not-both t (none-settled v)) };
-        in-budget = omega arith;
-        lasts = omega arith;
-      }
-
 -- a search under way over words that may be asked
-pub record Underway (n m arcs start limit budget left : ℕ) (w₀ : List ℕ) (hand : ℕ) (w : List ℕ) (count : ℕ) : Type 0 where
-  pub ask : Askable n m arcs start limit w₀
-  pub search : Searching n m start limit budget left w₀ hand w count
+pub record QueryUnderway (s : Site) (limit budget left : ℕ) (w₀ : List ℕ) (hand : ℕ) (w : List ℕ) (count : ℕ) : Type 0 where
+  pub ask : Askable s limit w₀
+  pub search : Searching s limit budget left w₀ hand w count
 
 -- the first open place, taken from the open list of a search under way
-pub record Taken (n m arcs start limit budget left : ℕ) (w₀ : List ℕ) (hand : ℕ) (w : List ℕ) (count v d : ℕ) : Type 0 where
-  pub under : Underway n m arcs start limit budget left w₀ hand w count
-  pub place : v < n
-  pub first : FirstOpen (λ u. costAt (labels n w) u) (settledAt n m hand w) v d
+pub record Taken (s : Site) (limit budget left : ℕ) (w₀ : List ℕ) (hand : ℕ) (w : List ℕ) (count v d : ℕ) : Type 0 where
+  pub under : QueryUnderway s limit budget left w₀ hand w count
+  pub place : v < s .places
+  pub first : FirstOpen (λ u. costAt (labels (s .places) w) u) (settledAt (s .places) hand w) v d
 
-module _ {n m arcs start limit budget left : ℕ} {w₀ : List ℕ} {hand : ℕ} {w : List ℕ} {count : ℕ} (under : Underway n m arcs start limit budget left w₀ hand w count) where
-  ask : Askable n m arcs start limit w₀
-  ask = under .ask
+module _ (s : Site) where
+  abbrev n : ℕ
+  n = s .places
 
-  s : Searching n m start limit budget left w₀ hand w count
-  s = under .search
+  module _ {limit : ℕ} {w : List ℕ} (ask : Askable s limit w) where
+    ask-start : s .start < n
+    unfolding problemAt
+    ask-start = ask .holds .valid .start-below
 
-  room-words : n ≤ length w
-  room-words = omega (arith, s .coherent .room .words)
+    ask-regions : (w′ : List ℕ) → length w′ ≡ length w → HasRegions n w′
+    ask-regions w′ len = record { few = few-places s w (ask .holds); room = omega (arith, map-room s w (ask .holds)) }
 
-  pub label-below : (v d : ℕ) → costAt (labels n w) v ≡ some d → d < 2 ^ 30
-  label-below v d e = omega (arith, end-below (s .front .backed v d e), ask .limit-below)
+    pub ask-clears : Clears n w
+    ask-clears = record { regions = ask-regions w refl; ready = ask .ready }
 
-  -- what the pass over the listed places' arcs asks, where no place is open
-  pub search-listed : NoneOpen (λ v. costAt (labels n w) v) (settledAt n m hand w) → Listed n count w
-  search-listed none-open =
-      record {
-        labelled =
-            record {
-              arcs = arcs;
-              start = start;
-              holds = holds-same n w w₀ (s .same-map) arcs start (s .same-length) (ask .holds);
-              label-below = label-below;
-            };
-        places = lists-same (s .front .labelled) (λ v l. none-open v (l .0) (l .1)) (s .listed);
-      }
+    -- words with the same map and an open list may be asked the same
+    pub ask-same : (w′ : List ℕ) → drop (endsAt n) w′ ≡ drop (endsAt n) w → length w′ ≡ length w → (hand : ℕ)
+        → OpenList n hand (openWords n w′) → Askable s limit w′
+    ask-same w′ same len hand list =
+        record {
+          holds = holds-same s w′ w same len (ask .holds);
+          ready = record { hand = hand; list = list };
+          start-within = rw (problem-same s w′ w same) (ask .start-within);
+          limit-below = ask .limit-below;
+        }
 
-  -- the open list as it is lent
-  pub search-list : OpenList m hand (part n (openEnd n m) w)
-  search-list = rw (← (open-part n m w)) (s .coherent .list)
+    -- once the area is cleared, the start can be arrived at
+    pub start-arrives : (w′ : List ℕ) → Blank n w w′ → (hand : ℕ) → hand ≡ emptyHand → Arrives n hand (s .start) 0 w′
+    start-arrives w′ b hand q =
+        record {
+          regions = ask-regions w′ (b .same-length);
+          lowers = record { list = rw q (b .none-open .list); place-in = ask-start; some = omega arith; below = omega arith };
+        }
 
-  -- the key of an open place is its label
-  open-key : (v d : ℕ) → costAt (labels n w) v ≡ some d → settledAt n m hand w v ≡ false → getD (keys n m hand w) v 0 ≡ d
-  open-key v d e o =
-      let l = label-is n w room-words v d e in
-      let never : getD (keys n m hand w) v 0 ≡ noKey → ⊥ = λ q. not-both (is-settled n m hand w v (record { place = l .place; label = λ z. l .some (sym (l .word) ∙ z); key = q })) o in
-      ⊎-elim (λ q. absurd (never q)) (λ q. q ∙ l .word) (s .coherent .key-label v (l .place))
-
-  module _ (v d : ℕ) (lent : Least (keysOf m hand (part n (openEnd n m) w)) v d) where
-    first : Least (keys n m hand w) v d
+  -- the start is labelled 0 and open, and no other place has a label
+  module _ {limit : ℕ} {w₀ : List ℕ} (ask : Askable s limit w₀) {w₁ : List ℕ} (b : Blank n w₀ w₁) (h₁ : ℕ) (empty : h₁ ≡ emptyHand)
+      {hand : ℕ} {w : List ℕ} (a : Arrived n (s .start) 0 h₁ w₁ hand w) where
+    no-key : (v : ℕ) → v < n → getD (keys n h₁ w₁) v 0 ≡ noKey
     unfolding keys
-    first = rw (open-part n m w) lent
+    no-key v h = rw (empty, b .none-open .keys-none) (getD-replicate n v noKey 0 h)
 
-    keys-many : length (keys n m hand w) ≡ 7 * m + 1
-    keys-many = coherent-length (s .coherent)
+    key-set : KeySet n h₁ w₁ (s .start) 0 hand w
+    key-set =
+        record {
+          coherent = record {
+            regions = ask-regions ask w₁ (b .same-length);
+            list = rw empty (b .none-open .list);
+            key-label = λ v h. inl (no-key v h);
+          };
+          place = ask-start ask;
+          keys-set = a .keys-set;
+          list = a .list;
+          same-length = a .same-length;
+          other-labels = a .other-labels;
+          label = inr (sym (a .label));
+        }
 
-    -- where the least key is one, its place is the first open one
-    module _ (h : d < noKey) where
-      first-place : v < n
-      first-place = go (decLt v n)
-        where
-          go : Dec (v < n) → v < n
-          go (yes l) = l
-          go (no l) = absurd (omega (arith, first .key h, s .coherent .beyond v (omega arith) (omega (arith, first .place h, keys-many))))
+    other-label : (v : ℕ) → v < n → (v ≡ s .start → ⊥) → labelWord w v ≡ noWord
+    other-label v h q = a .other-labels v h q ∙ b .unlabelled v h
 
-      first-word : getD w v 0 ≡ d
-      first-word = ⊎-elim (λ q. absurd (omega (arith, first .key h))) (λ q. sym q ∙ first .key h) (s .coherent .key-label v first-place)
-
-      label-key : (u y : ℕ) → settledAt n m hand w u ≡ false → costAt (labels n w) u ≡ some y → (u < length (keys n m hand w)) × (getD (keys n m hand w) u 0 ≡ y)
-      label-key u y o e =
-          let l = label-is n w room-words u y e in
-          (omega (arith, l .place, s .coherent .room .enough .keys, keys-many), open-key u y e o)
-
-      first-open : FirstOpen (λ v. costAt (labels n w) v) (settledAt n m hand w) v d
-      first-open =
-          record {
-            is-labelled = is-label n w room-words v d (record { place = first-place; word = first-word; some = λ q. omega arith });
-            is-open = not-true-false _ (λ t. omega (arith, settled-is n m hand w v t .key, first .key h));
-            least = λ u y o e. let k = label-key u y o e in omega (arith, first .least u (k .0), k .1);
-            lowest = λ u o e. lowest u (label-key u d o e .1) (decLt u v);
-          }
-        where
-          lowest : (u : ℕ) → getD (keys n m hand w) u 0 ≡ d → Dec (u < v) → v ≤ u
-          lowest u k (yes l) = absurd (omega (arith, first .before u h l))
-          lowest u k (no l) = omega arith
-
-    pub taken : d < noKey → Taken n m arcs start limit budget left w₀ hand w count v d
-    taken h = record { under = under; place = first-place h; first = first-open h }
-
-    -- where it is none, no place is open
-    pub none-open : noKey ≤ d → NoneOpen (λ v. costAt (labels n w) v) (settledAt n m hand w)
-    none-open h u y e = go (settledAt n m hand w u) refl
+    none-settled : (v : ℕ) → settledAt n hand w v ≡ false
+    none-settled v = not-true-false (settledAt n hand w v) never
       where
-        go : (b : Bool) → settledAt n m hand w u ≡ b → b ≡ true
-        go true o = refl
-        go false o =
-            let l = label-is n w room-words u y e in
-            let in-list : u < length (keys n m hand w) = omega (arith, l .place, s .coherent .room .enough .keys, keys-many) in
-            absurd (omega (arith, first .least u in-list, open-key u y e o, label-below u y e))
+        never : settledAt n hand w v ≡ true → ⊥
+        never t = go (settled-is n hand w v t) (ℕ-discrete v (s .start))
+          where
+            go : HasSettled n hand w v → Dec (v ≡ s .start) → ⊥
+            go h (yes q) = omega (arith, h .key, own-key key-set, ap (λ (i : ℕ). getD (keys n hand w) i 0) q)
+            go h (no q) = h .label (other-label v (h .place) q)
 
-module _ {n m arcs start limit budget left : ℕ} {w₀ : List ℕ} {hand : ℕ} {w : List ℕ} {count v d : ℕ} (t : Taken n m arcs start limit budget left w₀ hand w count v d)
-    (at : ℕ) (e : at ≡ goalsAt n) where
-  same : problemAt n start w ≡ problemAt n start w₀
-  same = problem-same n w w₀ (t .under .search .same-map) start
+    words : n ≤ length w
+    words = omega (arith, map-room s w₀ (ask .holds), b .same-length, a .same-length)
 
-  pub taken-goal : (getD w (at + v) 0 ≡ 0 → ⊥) → IsGoal (problemAt n start w₀) v
-  taken-goal h = rw (← same) (mark-goal n w start v (t .place) (rw e at h))
+    only-start : (v d : ℕ) → costAt (labels n w) v ≡ some d → (v ≡ s .start) × (d ≡ 0)
+    only-start v d e = go (label-is n w words v d e) (ℕ-discrete v (s .start))
+      where
+        go : HasLabel n w v d → Dec (v ≡ s .start) → (v ≡ s .start) × (d ≡ 0)
+        go l (yes q) = (q, omega (arith, l .word, a .label, ap (labelWord w) q))
+        go l (no q) = absurd (l .some (omega (arith, l .word, other-label v (l .place) q)))
 
-  pub taken-no-goal : getD w (at + v) 0 ≡ 0 → IsGoal (problemAt n start w₀) v → ⊥
-  taken-no-goal h i = goal-mark n w start v (rw same i) (rw e at h)
+    pub searching-starts : (budget left : ℕ) → Searching s limit budget left w hand w 0
+    unfolding problemAt
+    searching-starts budget left =
+        let again = ask-same ask w (begun-map b a) (a .same-length ∙ b .same-length) hand (a .list) in
+        let none : settledAt n hand w ≡ (λ v. false) = λ i v. none-settled v i in
+        let has-label : HasLabel n w (s .start) 0 = record { place = ask-start ask; word = a .label; some = λ q. omega arith } in
+        let label = is-label n w words (s .start) 0 has-label in
+        let labelled : ℕ → Option ℕ = λ v. costAt (labels n w) v in
+        record {
+          same-map = refl;
+          same-length = refl;
+          coherent = still-coherent key-set;
+          front = rw none (begin-front (problemAt s w) limit labelled (again .holds .valid) (again .start-within) label only-start);
+          counted = rw none (count-none n);
+          listed = record { few = omega arith; each = λ i l. absurd (omega arith); all = λ v t. absurd (not-both t (none-settled v)) };
+          in-budget = omega arith;
+          lasts = omega arith;
+        }
+
+  module _ {limit budget left : ℕ} {w₀ : List ℕ} {hand : ℕ} {w : List ℕ} {count : ℕ} (under : QueryUnderway s limit budget left w₀ hand w count) where
+    searching : Searching s limit budget left w₀ hand w count
+    searching = under .search
+
+    room-words : n ≤ length w
+    room-words = omega (arith, searching .coherent .regions .room)
+
+    pub label-below : (v d : ℕ) → costAt (labels n w) v ≡ some d → d < 2 ^ 30
+    label-below v d e = omega (arith, end-below (searching .front .backed v d e), under .ask .limit-below)
+
+    -- what the pass over the listed places' arcs asks, where no place is open
+    pub search-listed : NoneOpen (λ v. costAt (labels n w) v) (settledAt n hand w) → Listed s count w
+    search-listed none-open =
+        let holds = holds-same s w w₀ (searching .same-map) (searching .same-length) (under .ask .holds) in
+        record {
+          labelled = record { holds = holds; label-below = label-below };
+          places = lists-same (searching .front .labelled) (λ v l. none-open v (l .0) (l .1)) (searching .listed);
+        }
+
+    -- the key of an open place is its label
+    open-key : (v d : ℕ) → costAt (labels n w) v ≡ some d → settledAt n hand w v ≡ false → getD (keys n hand w) v 0 ≡ d
+    open-key v d e o =
+        let l = label-is n w room-words v d e in
+        let label : labelWord w v ≡ noWord → ⊥ = λ z. l .some (sym (l .word) ∙ z) in
+        let never : getD (keys n hand w) v 0 ≡ noKey → ⊥ =
+        λ q. not-both (is-settled n hand w v (record { place = l .place; label = label; key = q })) o in
+        ⊎-elim (λ q. absurd (never q)) (λ q. q ∙ l .word) (searching .coherent .key-label v (l .place))
+
+    -- the open list as it is lent, from a to e
+    module _ (a e : ℕ) (p : a ≡ openAt n) (q : e ≡ parentsAt n) where
+      pub search-list : OpenList n hand (part a e w)
+      search-list = rw (open-part n a e p q w) (searching .coherent .list)
+
+      module _ (v d : ℕ) (lent : LeastKey (keysOf n hand (part a e w)) v d) where
+        first : LeastKey (keys n hand w) v d
+        unfolding keys
+        first = rw (← open-part n a e p q w) lent
+
+        keys-many : length (keys n hand w) ≡ n
+        keys-many = coherent-length (searching .coherent)
+
+        -- where the least key is one, its place is the first open one
+        module _ (h : d < noKey) where
+          first-place : v < n
+          first-place = omega (arith, first .place h, keys-many)
+
+          first-word : labelWord w v ≡ d
+          first-word =
+              ⊎-elim (λ z. absurd (omega (arith, first .key h))) (λ z. sym z ∙ first .key h) (searching .coherent .key-label v first-place)
+
+          label-key : (u y : ℕ) → settledAt n hand w u ≡ false → costAt (labels n w) u ≡ some y
+              → (u < length (keys n hand w)) × (getD (keys n hand w) u 0 ≡ y)
+          label-key u y o f = (omega (arith, label-is n w room-words u y f .place, keys-many), open-key u y f o)
+
+          first-open : FirstOpen (λ v. costAt (labels n w) v) (settledAt n hand w) v d
+          first-open =
+              record {
+                is-labelled = is-label n w room-words v d (record { place = first-place; word = first-word; some = λ z. omega arith });
+                is-open = not-true-false _ (λ t. omega (arith, settled-is n hand w v t .key, first .key h));
+                least = λ u y o f. let k = label-key u y o f in omega (arith, first .least u (k .0), k .1);
+                lowest = λ u o f. lowest u (label-key u d o f .1) (decLt u v);
+              }
+            where
+              lowest : (u : ℕ) → getD (keys n hand w) u 0 ≡ d → Dec (u < v) → v ≤ u
+              lowest u k (yes l) = absurd (omega (arith, first .before u h l))
+              lowest u k (no l) = omega arith
+
+        pub taken : d < noKey → Taken s limit budget left w₀ hand w count v d
+        taken h = record { under = under; place = first-place h; first = first-open h }
+
+        -- where it is none, no place is open
+        pub none-open : noKey ≤ d → NoneOpen (λ v. costAt (labels n w) v) (settledAt n hand w)
+        none-open h u y f = go (settledAt n hand w u) refl
+          where
+            go : (b : Bool) → settledAt n hand w u ≡ b → b ≡ true
+            go true o = refl
+            go false o =
+                let in-list : u < length (keys n hand w) = omega (arith, label-is n w room-words u y f .place, keys-many) in
+                absurd (omega (arith, first .least u in-list, open-key u y f o, label-below u y f))
+
+  module _ {limit budget left : ℕ} {w₀ : List ℕ} {hand : ℕ} {w : List ℕ} {count v d : ℕ} (t : Taken s limit budget left w₀ hand w count v d) where
+    same : problemAt s w ≡ problemAt s w₀
+    same = problem-same s w w₀ (t .under .search .same-map)
+
+    pub taken-place : HasPlace n v w
+    taken-place = let regions = t .under .search .coherent .regions in record { few = regions .few; place = t .place; room = regions .room }
+
+    pub taken-goal : not (eqb (goalWord n w v) 0) ≡ true → IsGoal (problemAt s w₀) v
+    taken-goal h = rw (← same) (mark-goal s w v (t .place) (eqb-false _ _ (not-true _ h)))
+
+    pub taken-no-goal : not (eqb (goalWord n w v) 0) ≡ false → IsGoal (problemAt s w₀) v → ⊥
+    taken-no-goal h i = goal-mark s w v (rw same i) (eqb-true _ _ (not-false _ h))

@@ -1,33 +1,23 @@
--- The regions of labels, of the open list and of the listed places: what a store, and a part that has come back, do to them and to the
--- map. Assumes nothing.
-use mathlib.Core.Path.{_≡_, sym, ap, _∙_}
+-- The regions of labels, of the open list and of the listed places: what a store, and the open list that has come back, do to them and to
+-- the map. Assumes nothing.
+use mathlib.Core.Path.{_≡_, sym, _∙_}
 use mathlib.Core.List.{List}
-use Prim.Native.Nat.{ℕ, _+_, _-_, _*_, _≤_, _<_}
+use Prim.Native.Nat.{ℕ, _+_, _-_, _<_}
 use native.Mathlib.Omega.{arith}
-use lib.ListN.{length, getD, set, drop, replicate, length-set, getD-replicate}
-use lib.Seq.{take-set-le, drop-set-lt, drop-set-add, getD-set-same, getD-set-other}
+use native.Mathlib.Nat.{sub-zero}
+use lib.ListN.{length, drop, length-set}
+use lib.Seq.{take-set-le, drop-set-add}
 use borrow.Rule.Slice.PartMut.{putMid}
 use Rattle.area.specs.Part.{part}
-use Rattle.area.proofs.Parts.{same-after, less-after, part-length, part-at, part-set-low, part-back, part-back-low, drop-back, back-length, back-at}
+use Rattle.area.proofs.Parts.{same-before, same-after, less-after, part-back, part-back-low, drop-back, back-length}
 use Rattle.open_list.specs.Entry.{noKey}
-use Rattle.open_list.specs.Keys.{Lowers, Closes, Put, Cleared, Used, emptyHand}
-use Rattle.open_list.specs.Size.{Enough, wordsOf}
-use Rattle.map.specs.Layout.{parentsAt, endsAt}
-use Rattle.scans.specs.Area.{openWords, keys, listedAt}
+use Rattle.open_list.specs.Keys.{wordsFor, CanLower, CanClose, Put, Cleared, Used, emptyHand}
+use Rattle.layout.specs.Regions.{openAt, parentsAt, endsAt, labelWord, withLabel, withParent}
+use Rattle.layout.specs.Labels.{Kept, NoLabels, listedAt}
+use Rattle.layout.proofs.Labels.{kept-on, with-label-rest, with-label-same, with-label-other, with-parent-kept, with-parent-same, with-parent-other}
+use Rattle.query.specs.Open.{openWords, keys}
 use Rattle.query.specs.Query.{Preparable, Prepared}
-use Rattle.query.specs.State.{Room, Clears, Blank, Arrives, Arrived, Settles, Settled}
-
--- where the open list ends
-abbrev pub openEnd : ℕ → ℕ → ℕ
-openEnd n m = n + wordsOf m
-
--- the open list is what is lent of it
-pub open-part : (n m : ℕ) (w : List ℕ) → openWords n m w ≡ part n (openEnd n m) w
-unfolding openWords part
-open-part n m w = let q : openEnd n m - n ≡ wordsOf m = omega arith in rw q
-
-room-ends : {n m : ℕ} {w : List ℕ} → Room n m w → (openEnd n m ≤ parentsAt n) × (parentsAt n ≤ length w)
-room-ends r = (omega (arith, r .enough .words), omega arith)
+use Rattle.query.specs.State.{HasRegions, Clears, Blank, Arrives, Arrived, Settles, Settled}
 
 -- words that are the same from the parents on hold the same list and the same map
 pub listed-same : (n : ℕ) (w₀ w : List ℕ) → drop (parentsAt n) w ≡ drop (parentsAt n) w₀ → (i : ℕ) → listedAt n w i ≡ listedAt n w₀ i
@@ -38,125 +28,119 @@ pub map-same : (n : ℕ) (w₀ w : List ℕ) → drop (parentsAt n) w ≡ drop (
 map-same n w₀ w same = less-after (endsAt n) (parentsAt n) w₀ w (omega arith) same
 
 -- so the map is as before once the area is cleared and a place is arrived at
-pub begun-map : {n m v d hand₀ hand : ℕ} {w₀ w₁ w : List ℕ} → Blank n m w₀ w₁ → Arrived n m v d hand₀ w₁ hand w
+pub begun-map : {n v d hand₀ hand : ℕ} {w₀ w₁ w : List ℕ} → Blank n w₀ w₁ → Arrived n v d hand₀ w₁ hand w
     → drop (endsAt n) w ≡ drop (endsAt n) w₀
 begun-map {n = n} {w₀ = w₀} {w = w} b a = map-same n w₀ w (a .same-rest ∙ b .same-rest)
 
--- what the words are when the open list has come back as ys
-record Back (n m : ℕ) (w ys w′ : List ℕ) : Type 0 where
-  same-rest : drop (parentsAt n) w′ ≡ drop (parentsAt n) w
-  label : (v : ℕ) → v < n → getD w′ v 0 ≡ getD w v 0
-  list : openWords n m w′ ≡ ys
-  same-length : length w′ ≡ length w
+-- words that are the same after the labels hold the same open list
+open-same : (n : ℕ) (w₀ w : List ℕ) → drop (openAt n) w ≡ drop (openAt n) w₀ → openWords n w ≡ openWords n w₀
+unfolding openWords
+open-same n w₀ w same = rw same
 
-back : (n m : ℕ) (w ys : List ℕ) → Room n m w → length ys ≡ length (part n (openEnd n m) w) → Back n m w ys (putMid n (openEnd n m - n) w ys)
-back n m w ys r l =
-    let e = openEnd n m in
-    let w′ = putMid n (e - n) w ys in
-    let le : n ≤ e = omega arith in
-    let fits : e ≤ length w = omega (arith, room-ends r) in
-    record {
-      same-rest = drop-back n e w ys (parentsAt n) le fits l (room-ends r .0);
-      label = λ v h.
-          let q : 0 + v ≡ v = omega arith in
-          let same = part-back-low n e w ys 0 n le fits (omega arith) (omega arith) in
-          let after = part-at 0 n w′ v (omega arith) in
-          let before = part-at 0 n w v (omega arith) in
-          rw q at (sym after) ∙ ap (λ (xs : List ℕ). getD xs v 0) same ∙ rw q at before;
-      list = open-part n m w′ ∙ part-back n e w ys le fits l;
-      same-length = back-length n e w ys l;
-    }
+-- The open list is lent, from a to e.
+module _ (n a e : ℕ) (p : a ≡ openAt n) (q : e ≡ parentsAt n) where
+  pub open-part : (w : List ℕ) → part a e w ≡ openWords n w
+  unfolding openWords part
+  open-part w = let size : parentsAt n - openAt n ≡ wordsFor n = omega arith in rw (p, q, size)
 
-set-room : {n m : ℕ} {w : List ℕ} → Room n m w → (i x : ℕ) → Room n m (set w i x)
-set-room r i x = record { few = r .few; enough = r .enough; words = simp length-set (omega (arith, r .words)) }
+  -- what the words are when it has come back as ys
+  record Back (w ys w′ : List ℕ) : Type 0 where
+    kept : Kept n w w′
+    same-rest : drop (parentsAt n) w′ ≡ drop (parentsAt n) w
+    label : (v : ℕ) → v < n → labelWord w′ v ≡ labelWord w v
+    list : openWords n w′ ≡ ys
 
-module _ (n m hand v d : ℕ) (w : List ℕ) (a : Arrives n m hand v d w) where
-  stored-list : part n (openEnd n m) (set w v d) ≡ openWords n m w
-  stored-list = part-set-low n (openEnd n m) w v d (a .place) ∙ sym (open-part n m w)
-
-  pub arrive-lowers : Lowers m hand v d (part n (openEnd n m) (set w v d))
-  arrive-lowers = rw stored-list (a .lowers)
-
-  pub arrived : (r : ℕ) (ys : List ℕ) → length ys ≡ length (part n (openEnd n m) (set w v d)) → Put m v d hand (part n (openEnd n m) (set w v d)) r ys
-      → Arrived n m v d hand w r (putMid n (openEnd n m - n) (set w v d) ys)
-  unfolding keys
-  arrived r ys l p =
-      let b = back n m (set w v d) ys (set-room (a .room) v d) l in
-      record {
-        same-rest = b .same-rest ∙ drop-set-lt (parentsAt n) w v d (omega arith);
-        list = rw (b .list) (p .list);
-        label = b .label v (a .place) ∙ getD-set-same w v d 0 (omega arith);
-        other-labels = λ u h q. b .label u h ∙ getD-set-other w v u d 0 q;
-        keys-set = rw (b .list, ← stored-list) (p .keys-set);
-      }
-
--- v is listed as number `count`, and the open list is lent to be closed at v
-module _ (n m hand count v : ℕ) (w : List ℕ) (a : Settles n m hand count v w) where
-  abbrev at : ℕ
-  at = parentsAt n + count
-
-  listed-list : part n (openEnd n m) (set w at v) ≡ openWords n m w
+  back : (w ys : List ℕ) → HasRegions n w → length ys ≡ length (part a e w) → Back w ys (putMid a (e - a) w ys)
   unfolding part
-  listed-list =
-      let after : at ≡ n + (10 * n + count) = omega arith in
-      let beyond : openEnd n m - n ≤ 10 * n + count = omega (arith, room-ends (a .coherent .room) .0) in
-      rw (after, drop-set-add, take-set-le (openEnd n m - n) (drop n w) (10 * n + count) v beyond) (sym (open-part n m w))
-
-  pub settle-closes : Closes m hand v (part n (openEnd n m) (set w (parentsAt n + count) v))
-  settle-closes = rw listed-list (record { list = a .coherent .list; place-in = omega (arith, a .place, a .coherent .room .enough .keys) })
-
-  pub settled : (r : ℕ) (ys : List ℕ) → length ys ≡ length (part n (openEnd n m) (set w (parentsAt n + count) v))
-      → Put m v noKey hand (part n (openEnd n m) (set w (parentsAt n + count) v)) r ys
-      → Settled n m count v hand w r (putMid n (openEnd n m - n) (set w (parentsAt n + count) v) ys)
-  unfolding keys listedAt
-  settled r ys l p =
-      let b = back n m (set w at v) ys (set-room (a .coherent .room) at v) l in
-      let w′ = putMid n (openEnd n m - n) (set w at v) ys in
-      let listed = listed-same n (set w at v) w′ (b .same-rest) in
+  back w ys r l =
+      let w′ = putMid a (e - a) w ys in
+      let rest = drop-back a e w ys (parentsAt n) (omega arith) (omega (arith, r .room)) l (omega arith) in
+      let labels = simp sub-zero at (part-back-low a e w ys 0 n (omega arith) (omega (arith, r .room)) (omega arith) (omega arith)) in
       record {
-        same-map = map-same n (set w at v) w′ (b .same-rest) ∙ drop-set-lt (endsAt n) w at v (omega (arith, a .more));
-        list = rw (b .list) (p .list);
-        label = λ u h. b .label u h ∙ getD-set-other w at u v 0 (λ q. omega arith);
-        keys-set = rw (b .list, ← listed-list) (p .keys-set);
-        listed = listed count ∙ getD-set-same w at v 0 (omega (arith, a .more, a .coherent .room .words));
-        listed-before = λ i h. listed i ∙ getD-set-other w at (parentsAt n + i) v 0 (λ q. omega arith);
+        kept = record { same-length = back-length a e w ys l; same-labels = labels; same-map = map-same n w w′ rest };
+        same-rest = rest;
+        label = λ v h. same-before n w w′ v labels h;
+        list = sym (open-part w′) ∙ part-back a e w ys (omega arith) (omega (arith, r .room)) l;
       }
 
-module _ (n m : ℕ) (w : List ℕ) (a : Clears n m w) where
-  room : Room n m w
-  room = a .room
+  -- cleared, before the queries
+  pub prepared : (w ys : List ℕ) → Preparable n w → length ys ≡ length (part a e w) → Cleared n ys → Prepared n w (putMid a (e - a) w ys)
+  prepared w ys g l z =
+      let b = back w ys (record { few = g .few; room = g .words }) l in
+      record { same-map = b .kept .same-map; ready = record { hand = emptyHand; list = rw (b .list) (z .list) } }
 
-  -- the labels have come back filled, then the open list cleared
-  module _ (xs : List ℕ) (l : length xs ≡ length (part 0 n w)) where
-    filled-room : Room n m (putMid 0 (n - 0) w xs)
-    filled-room = record { few = room .few; enough = room .enough; words = omega (arith, back-length 0 n w xs l) }
+  -- cleared, once the labels are
+  module _ (w₀ w : List ℕ) (g : Clears n w₀) (none : NoLabels n w₀ w) (len : length w ≡ length w₀) where
+    pub still-used : Used n (part a e w)
+    still-used = rw (open-part w, open-same n w₀ w (none .same-rest)) (g .ready)
 
-    pub still-used : Used m (part n (openEnd n m) (putMid 0 (n - 0) w xs))
-    unfolding openWords
-    still-used =
-        let same : drop n (putMid 0 (n - 0) w xs) ≡ drop n w = drop-back 0 n w xs n (omega arith) (omega arith) l (omega arith) in
-        rw (← (open-part n m (putMid 0 (n - 0) w xs)), same) (a .used)
-
-    pub blank : (ys : List ℕ) → xs ≡ replicate (length (part 0 n w)) noKey → length ys ≡ length (part n (openEnd n m) (putMid 0 (n - 0) w xs)) → Cleared m ys
-        → Blank n m w (putMid n (openEnd n m - n) (putMid 0 (n - 0) w xs) ys)
-    blank ys f k z =
-        let b = back n m (putMid 0 (n - 0) w xs) ys filled-room k in
+    pub blank : (ys : List ℕ) → length ys ≡ length (part a e w) → Cleared n ys → Blank n w₀ (putMid a (e - a) w ys)
+    blank ys l z =
+        let b = back w ys (record { few = g .regions .few; room = omega (arith, g .regions .room) }) l in
         record {
-          same-rest = b .same-rest ∙ drop-back 0 n w xs (parentsAt n) (omega arith) (omega arith) l (omega arith);
-          unlabelled = λ v h.
-              let q : 0 + v ≡ v = omega arith in
-              let filled = back-at 0 n w xs v (omega arith) (omega arith) l (omega arith) in
-              let len : v < length (part 0 n w) = omega (arith, part-length 0 n w (omega arith)) in
-              b .label v h ∙ rw q at filled ∙ rw f (getD-replicate (length (part 0 n w)) v noKey 0 len);
+          same-length = b .kept .same-length ∙ len;
+          same-rest = b .same-rest ∙ less-after (parentsAt n) (openAt n) w₀ w (omega arith) (none .same-rest);
+          unlabelled = λ v h. b .label v h ∙ none .none v h;
           none-open = rw (b .list) z;
         }
 
--- the open list has come back cleared, before the queries
-pub prepared : (n m : ℕ) (w ys : List ℕ) → Preparable n w → Enough n m → length ys ≡ length (part n (openEnd n m) w) → Cleared m ys
-    → Prepared n m w (putMid n (openEnd n m - n) w ys)
-prepared n m w ys p e l z =
-    let b = back n m w ys (record { few = p .places .few; enough = e; words = p .words }) l in
-    record {
-      same-map = map-same n w (putMid n (openEnd n m - n) w ys) (b .same-rest);
-      ready = record { enough = e; used = record { hand = emptyHand; list = rw (b .list) (z .list) } };
-    }
+  -- lowered at v, whose label is stored
+  module _ (hand v d : ℕ) (w : List ℕ) (g : Arrives n hand v d w) where
+    abbrev labelled : List ℕ
+    labelled = withLabel w v d
+
+    place : v < n
+    place = g .lowers .place-in
+
+    labelled-list : part a e labelled ≡ openWords n w
+    labelled-list = open-part labelled ∙ open-same n w labelled (with-label-rest n w v d place)
+
+    pub arrive-lowers : CanLower n hand v d (part a e labelled)
+    arrive-lowers = rw labelled-list (g .lowers)
+
+    pub arrived : (r : ℕ) (ys : List ℕ) → length ys ≡ length (part a e labelled) → Put n v d hand (part a e labelled) r ys
+        → Arrived n v d hand w r (putMid a (e - a) labelled ys)
+    unfolding keys
+    arrived r ys l put =
+        let size = length-set w v d in
+        let b = back labelled ys (record { few = g .regions .few; room = omega (arith, g .regions .room) }) l in
+        record {
+          same-length = b .kept .same-length ∙ size;
+          same-rest = b .same-rest ∙ less-after (parentsAt n) (openAt n) w labelled (omega arith) (with-label-rest n w v d place);
+          list = rw (b .list) (put .list);
+          label = b .label v place ∙ with-label-same n w v d (omega (arith, place, g .regions .room));
+          other-labels = λ u h q. b .label u h ∙ with-label-other n w v d u q;
+          keys-set = rw (b .list, ← labelled-list) (put .keys-set);
+        }
+
+  -- closed at v, which is listed as number `count`
+  module _ (hand count v : ℕ) (w : List ℕ) (g : Settles n hand count v w) where
+    abbrev listing : List ℕ
+    listing = withParent n w count v
+
+    listing-list : part a e listing ≡ openWords n w
+    unfolding openWords
+    listing-list =
+        let after : parentsAt n + count ≡ openAt n + (wordsFor n + count) = omega arith in
+        let same = take-set-le (wordsFor n) (drop (openAt n) w) (wordsFor n + count) v (omega arith) in
+        open-part listing ∙ rw (after, drop-set-add, same)
+
+    pub settle-closes : CanClose n hand v (part a e listing)
+    settle-closes = rw listing-list (record { list = g .coherent .list; place-in = g .place })
+
+    pub settled : (r : ℕ) (ys : List ℕ) → length ys ≡ length (part a e listing) → Put n v noKey hand (part a e listing) r ys
+        → Settled n count v hand w r (putMid a (e - a) listing ys)
+    unfolding keys listedAt
+    settled r ys l put =
+        let kept = with-parent-kept n w count v (g .more) in
+        let regions = g .coherent .regions in
+        let b = back listing ys (record { few = regions .few; room = omega (arith, regions .room, kept .same-length) }) l in
+        let w′ = putMid a (e - a) listing ys in
+        let listed = listed-same n listing w′ (b .same-rest) in
+        record {
+          kept = kept-on n w listing w′ kept (b .kept);
+          list = rw (b .list) (put .list);
+          keys-set = rw (b .list, ← listing-list) (put .keys-set);
+          listed = listed count ∙ with-parent-same n w count v (omega (arith, g .more, regions .room));
+          listed-before = λ i h. listed i ∙ with-parent-other n w count v i (λ z. omega arith);
+        }

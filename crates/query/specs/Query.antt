@@ -6,13 +6,16 @@ use mathlib.Core.Option.{some}
 use Prim.Native.Nat.{ℕ, _^_, _≤_, _<_}
 use lib.ListN.{length, drop}
 use Rattle.open_list.specs.Keys.{Used}
-use Rattle.open_list.specs.Size.{Places, Enough}
-use Rattle.map.specs.Layout.{Holds, problemAt, endsAt, arcsAt}
+use Rattle.map.specs.declared.Site.{Site}
+use Rattle.layout.specs.Regions.{endsAt, arcsAt}
+use Rattle.layout.specs.Map.{problemAt, Holds}
+use Rattle.layout.specs.Labels.{labels}
+use Rattle.model.specs.Limits.{maxPlaces}
 use Rattle.model.specs.Problem.{Problem}
 use Rattle.model.specs.Costs.{Table, costAt, table}
 use Rattle.model.specs.Query as model
 use Rattle.model.specs.Query.{firstGoal, query}
-use Rattle.scans.specs.Area.{labels, openWords}
+use Rattle.query.specs.Open.{openWords}
 use Rattle.query.specs.declared.Outcome.{Outcome}
 use Rattle.query.specs.declared.Outcome.the-variants.{Ended, Over, Found, None}
 use Rattle.query.specs.declared.Asked.{Asked}
@@ -24,26 +27,26 @@ outcomeOf Over = model.over
 outcomeOf Found = model.found
 outcomeOf None = model.nothing
 
--- the words of an open list for n places, of so many nodes, from which a query can begin
-pub record Ready (n nodes : ℕ) (w : List ℕ) : Type 0 where
-  pub enough : Enough n nodes
-  pub used : Used nodes (openWords n nodes w)
+-- the open list's words are such that a query can begin
+abbrev pub Ready : ℕ → List ℕ → Type 0
+Ready n w = Used n (openWords n w)
 
 -- what `prepare` asks: places, and the words of their regions
 pub record Preparable (n : ℕ) (w : List ℕ) : Type 0 where
-  pub places : Places n
+  pub some : 1 ≤ n
+  pub few : n ≤ maxPlaces
   pub words : arcsAt n ≤ length w
 
 -- what it leaves: the map is as before
-pub record Prepared (n nodes : ℕ) (w₀ w : List ℕ) : Type 0 where
+pub record Prepared (n : ℕ) (w₀ w : List ℕ) : Type 0 where
   pub same-map : drop (endsAt n) w ≡ drop (endsAt n) w₀
-  pub ready : Ready n nodes w
+  pub ready : Ready n w
 
 -- the area holds a map and an open list, the start is within the limit, and the limit is one that the rounds can ask
-pub record Askable (n nodes arcs start limit : ℕ) (w : List ℕ) : Type 0 where
-  pub holds : Holds n arcs start w
-  pub ready : Ready n nodes w
-  pub start-within : problemAt n start w .estimate start ≤ limit
+pub record Askable (s : Site) (limit : ℕ) (w : List ℕ) : Type 0 where
+  pub holds : Holds s w
+  pub ready : Ready (s .places) w
+  pub start-within : problemAt s w .estimate (s .start) ≤ limit
   pub limit-below : limit < 2 ^ 30
 
 -- the labels are the table's entries as far as the cost c
@@ -52,21 +55,21 @@ pub record Agrees (label entry : Table) (c : ℕ) : Type 0 where
   pub label-entry : (v d : ℕ) → costAt label v ≡ some d → d < c → costAt entry v ≡ some d
 
 -- the goal that was found, with its label, and the labels of all that is cheaper
-pub record FoundAt (p : Problem) (limit n place : ℕ) (w : List ℕ) : Type 0 where
+pub record FoundAt (p : Problem) (limit place : ℕ) (w : List ℕ) : Type 0 where
   pub cost : ℕ
   pub is-first : firstGoal p (table p limit) ≡ some (record { cost = cost; place = place })
-  pub label : costAt (labels n w) place ≡ some cost
-  pub agrees : Agrees (labels n w) (table p limit) cost
-  pub label-below : (v d : ℕ) → costAt (labels n w) v ≡ some d → d < 2 ^ 30
+  pub label : costAt (labels (p .places) w) place ≡ some cost
+  pub agrees : Agrees (labels (p .places) w) (table p limit) cost
+  pub label-below : (v d : ℕ) → costAt (labels (p .places) w) v ≡ some d → d < 2 ^ 30
 
 -- The query's outcome and cost are the definition's, unless it costs more than is left; where it is cut, it has counted what was left. The
 -- map is as before, and the open list is ready for the next query.
-pub record Answered (n nodes start limit budget left : ℕ) (w₀ w : List ℕ) (r : Asked) : Type 0 where
-  pub same-map : drop (endsAt n) w ≡ drop (endsAt n) w₀
-  pub ready : Ready n nodes w
-  pub spent : r .spent ≡ true → left < query (problemAt n start w₀) limit budget .cost
+pub record Answered (s : Site) (limit budget left : ℕ) (w₀ w : List ℕ) (r : Asked) : Type 0 where
+  pub same-map : drop (endsAt (s .places)) w ≡ drop (endsAt (s .places)) w₀
+  pub ready : Ready (s .places) w
+  pub spent : r .spent ≡ true → left < query (problemAt s w₀) limit budget .cost
   pub cut : r .spent ≡ true → r .count ≡ left
-  pub lasts : r .spent ≡ false → query (problemAt n start w₀) limit budget .cost ≤ left
-  pub outcome : r .spent ≡ false → outcomeOf (r .outcome) ≡ query (problemAt n start w₀) limit budget .outcome
-  pub count : r .spent ≡ false → r .count ≡ query (problemAt n start w₀) limit budget .cost
-  pub found : r .spent ≡ false → r .outcome ≡ Found → FoundAt (problemAt n start w₀) limit n (r .place) w
+  pub lasts : r .spent ≡ false → query (problemAt s w₀) limit budget .cost ≤ left
+  pub outcome : r .spent ≡ false → outcomeOf (r .outcome) ≡ query (problemAt s w₀) limit budget .outcome
+  pub count : r .spent ≡ false → r .count ≡ query (problemAt s w₀) limit budget .cost
+  pub found : r .spent ≡ false → r .outcome ≡ Found → FoundAt (problemAt s w₀) limit (r .place) w

@@ -1,32 +1,35 @@
 -- The sheet of a call is within its area, and a reading has room for the places that it counts. Assumes nothing.
 use mathlib.Core.Path.{_≡_}
 use mathlib.Core.List.{List}
-use Prim.Native.Nat.{ℕ, _≤_}
+use Prim.Native.Nat.{ℕ, zero, suc, _≤_}
 use native.Mathlib.Decide.{ℕ-discrete}
 use native.Mathlib.Omega.{arith}
 use lib.ListN.{length, length-append}
 use Rattle.model.specs.Bytes.{Bytes}
-use Rattle.model.specs.Framing.{frame}
 use Rattle.model.specs.Limits.{maxPlaces}
 use Rattle.model.specs.Sheets.{reading, refusedRead, readSheet}
-use Rattle.model.specs.Answer.{Ending, refused, spent, noRoute, routed, ending, sheetOf, answerOf, overFront, route}
+use Rattle.model.specs.Stated.{Stated, problemOf}
+use Rattle.model.specs.Endings.{Ending, spent, noRoute, routed, Engine, budgeted}
+use Rattle.model.specs.Answer.{sheetOf, answerOf, overFront, refusedWith, endedWith, callIf, call}
 use Rattle.model.proofs.Sheets.{accepted-route, accepted-no-route, refused-otherwise}
 use Rattle.route.specs.Printed.{answered}
 
 -- the sheet bytes of a call are within the sheet area
-within-area : (input work sheet : List ℕ) → route input work sheet .answer .sheet-bytes ≤ length (route input work sheet .sheet)
-unfolding route sheetOf answerOf overFront
-within-area input work sheet = go (ending (frame input) (length work) (length sheet))
-  where
-    go : (e : Ending) → answerOf e .sheet-bytes ≤ length (overFront (sheetOf e) sheet)
-    go (refused n) = omega arith
-    go (spent f e q) = omega arith
-    go (noRoute s l e q) = rw length-append (omega arith)
-    go (routed c r l e q) = rw length-append (omega arith)
+ended-within : (e : Ending) (sheet : List ℕ) → answerOf e .sheet-bytes ≤ length (overFront (sheetOf e) sheet)
+unfolding sheetOf answerOf overFront
+ended-within (spent e) sheet = omega arith
+ended-within (noRoute e) sheet = rw length-append (omega arith)
+ended-within (routed e) sheet = rw length-append (omega arith)
+
+call-within : (n : ℕ) (engine : Engine) (s : Stated) (work sheet : List ℕ)
+    → callIf n engine s work sheet .answer .sheet-bytes ≤ length (callIf n engine s work sheet .sheet)
+unfolding callIf refusedWith endedWith
+call-within zero engine s work sheet = ended-within (engine (problemOf s) (s .job .allowance)) sheet
+call-within (suc n) engine s work sheet = omega arith
 
 pub sheet-within : (input : List ℕ) → answered input .answer .sheet-bytes ≤ length (answered input .sheet)
-unfolding answered
-sheet-within input = within-area input _ _
+unfolding answered call
+sheet-within input = call-within _ budgeted _ _ _
 
 -- a reading counts at most 4,096 places
 pub few-read : (b : List ℕ) → Bytes b → readSheet b .count ≤ maxPlaces

@@ -1,127 +1,140 @@
--- From the judgement, the loaded problem and the verdict on it to the result of the call. Assumes nothing.
+-- From the loaded problem and the verdict on it to the result of the call. Assumes nothing.
 use mathlib.Core.Path.{_≡_, sym, ap, _∙_}
+use mathlib.Core.Bool.{_||_}
 use mathlib.Core.List.{List}
-use Prim.Native.Nat.{ℕ, zero, suc, _+_, _*_, _≤_}
+use Prim.Native.Nat.{ℕ, _+_, _*_, _≤_}
 use native.Mathlib.Omega.{arith}
-use lib.ListN.{length, take, replicate}
+use lib.Dec.{ltb}
+use lib.ListN.{length, take, replicate, length-replicate}
 use lib.Seq.{sets}
 use borrow.Author.Tests.{ltb-false}
-use Rattle.judge.specs.Judge.{Judged}
-use Rattle.map.specs.Layout.{endsAt, problemAt, Loaded}
 use Rattle.map.specs.declared.Job.{Job}
-use Rattle.judge.specs.declared.Judgement.{Judgement}
-use Rattle.judge.specs.declared.Judgement.the-variants as judgement
-use Rattle.judge.specs.declared.Judgement.the-variants.{Refused}
+use Rattle.map.specs.declared.Site.{Site}
+use Rattle.layout.specs.Regions.{arcsAt}
+use Rattle.layout.specs.Map.{problemAt}
+use Rattle.load.specs.Loaded.{Loaded}
 use Rattle.model.specs.Bytes.{Bytes}
 use Rattle.model.specs.Framing.{frame}
-use Rattle.model.specs.Problem.{Problem, Valid}
-use Rattle.model.specs.Refusals.{refusal, workWords, shortWork, shortSheet, Accepted}
-use Rattle.model.specs.Rounds.{search}
+use Rattle.model.specs.Limits.{maxPlaces, maxArcs}
+use Rattle.model.specs.Problem.{Valid}
+use Rattle.model.specs.Stated.{stated, problemOf}
+use Rattle.model.specs.Refusals.{wrongSize, workWords, shortWork, shortSheet, formRows, sizeRows, mapRows, jobRows, inputRows, roomRows, rows}
+use Rattle.model.specs.Refusals.{holdsAt, refusal}
+use Rattle.model.specs.Endings.{Ending, budgeted}
 use Rattle.model.specs.Answer as model
-use Rattle.model.specs.Answer.{Result, Ending, answer, searched, endingIf, ending, sheetOf, overFront, workAfter, route}
-use Rattle.model.proofs.Acceptance.{none-holds, accepted-valid}
-use Rattle.model.proofs.Endings.{accepted-ending}
+use Rattle.model.specs.Answer.{Result, sheetOf, overFront, endedWith, callIf, call}
+use Rattle.model.proofs.Lists.{neither}
+use Rattle.model.proofs.Rows.{row-fails, rows-numbered}
+use Rattle.model.proofs.Acceptance.{accepted-valid}
 use Rattle.model.proofs.Same.{same-ending}
-use Rattle.search.specs.Rounds.{Searched}
+use Rattle.search.specs.Rounds.{Means, Searched}
 use Rattle.search.specs.declared.Verdict.{Verdict}
 use Rattle.search.specs.declared.Verdict.the-variants.{Spent, NoRoute}
 use Rattle.search.specs.declared.Verdict.the-variants as verdict
 use Rattle.router.specs.Call.{answerOf, seven, Routed, RoutedFor}
-use Rattle.router.specs.Steps.{Stated, Writable, Written, numbersOf}
+use Rattle.router.specs.Steps.{HasRoom, wordsOf, Writable, Written, numbersOf, Concludable, Concluded}
 use Rattle.router.specs.declared.Answer.{Answer}
-use Rattle.router.proofs.Counting.{searched-possible, follows-few}
-use Rattle.router.proofs.Words.{stored}
+use Rattle.router.proofs.Counting.{routed-possible, follows-few}
+use Rattle.router.proofs.Words.{rest-kept, stored}
 
--- a refused input: its number and zeros, and both areas as they were
-refusal-routed : (input work sheet : List ℕ) (n : ℕ) (r : Answer) → n ≡ refusal (frame input) (length work) (length sheet) → 1 ≤ n
-    → answerOf r ≡ answer n 0 0 0 0 0 0 → Routed input work sheet r work sheet
-unfolding route ending endingIf model.answerOf sheetOf overFront workAfter
-refusal-routed input work sheet zero r e h is = absurd (omega arith)
-refusal-routed input work sheet (suc n) r e h is = record { result = rw (← e, ← is) }
-
-module _ {input : List ℕ} (work sheet : List ℕ) {g : Judgement} (judged : Judged input (length work) (length sheet) g) where
-  pub refused-routed : {n : ℕ} {r : Answer} → g ≡ Refused n → 1 ≤ n → answerOf r ≡ answer n 0 0 0 0 0 0 → Routed input work sheet r work sheet
-  refused-routed {n} {r} e h is = refusal-routed input work sheet n r (rw e at (judged .number)) h is
-
-  pub stated : {j : Job} → g ≡ judgement.Accepted j → Stated input j work sheet
-  stated {j} e = record { accepted = sym (rw e at (judged .number)); states = judged .states j e }
-
--- an accepted input: what its job states, its areas have room for
-module _ {input work₀ sheet₀ : List ℕ} {j : Job} (s : Stated input j work₀ sheet₀) where
-  pub enough-words : 16 * j .map .places + 2 * j .map .arcs ≤ length work₀
-  unfolding shortWork workWords
-  enough-words =
-      let no = none-holds (frame input) (length work₀) (length sheet₀) (s .accepted) in
-      rw (s .states .places, s .states .arcs) (ltb-false _ _ (no .no-14))
-
-  enough-bytes : 10 + 2 * j .map .places ≤ length sheet₀
-  unfolding shortSheet
-  enough-bytes =
-      let no = none-holds (frame input) (length work₀) (length sheet₀) (s .accepted) in
-      rw (s .states .places) (ltb-false _ _ (no .no-15))
-
--- the ending of a search under an allowance
-abbrev endingOf : Problem → ℕ → Ending
-endingOf p a = searched p (search p a) (search p a .spent)
-
--- after a search the front of the work area is zero
-searched-cleared : {n start allowance : ℕ} {loaded work : List ℕ} (v : Verdict) → Searched n start allowance loaded work v
-    → (words : ℕ) (work₀ : List ℕ) → workAfter (endingOf (problemAt n start loaded) allowance) words work₀ ≡ overFront (replicate words 0) work₀
-unfolding workAfter
-searched-cleared (Spent f x q) s words work₀ = rw (s .means)
-searched-cleared (NoRoute l x q) s words work₀ = rw (s .means)
-searched-cleared (verdict.Routed c g l x q) s words work₀ = rw (s .means .1)
+-- ---- Any verdict, concluded
 
 -- the numbers of a verdict are those of its ending
-searched-numbers : {n start allowance : ℕ} {loaded work : List ℕ} (v : Verdict) → Searched n start allowance loaded work v
-    → numbersOf v (length (sheetOf (endingOf (problemAt n start loaded) allowance))) ≡ model.answerOf (endingOf (problemAt n start loaded) allowance)
+numbers-mean : (s : Site) (work : List ℕ) (v : Verdict) (e : Ending) → Means s work v e → numbersOf v (length (sheetOf e)) ≡ model.answerOf e
 unfolding model.answerOf sheetOf
-searched-numbers (Spent f x q) s = rw (s .means)
-searched-numbers (NoRoute l x q) s = rw (s .means)
-searched-numbers (verdict.Routed c g l x q) s = rw (s .means .1)
+numbers-mean s work (Spent v) e m = rw m
+numbers-mean s work (NoRoute v) e m = rw m
+numbers-mean s work (verdict.Routed v) e (r, m, follows) = rw m
+
+-- its sheet is written, the front of the work area is zero, and its numbers are told
+pub concluded : {s : Site} {v : Verdict} {work₀ sheet₀ work sheet : List ℕ} {bytes : ℕ} {r : Answer}
+    → Written s v work₀ sheet₀ bytes sheet → work ≡ overFront (replicate (wordsOf s) 0) work₀ → answerOf r ≡ numbersOf v bytes
+    → Concluded s v work₀ sheet₀ r work sheet
+unfolding endedWith
+concluded {s} {v} {work₀} w clear is =
+    record {
+      result = λ e m.
+          rw (clear, w .over-front e m, is ∙ ap (numbersOf v) (w .sheet-bytes e m) ∙ numbers-mean s work₀ v e m);
+    }
+
+-- ---- An accepted input
+
+-- what its job states, its areas have room for
+module _ {input work₀ sheet₀ : List ℕ} {j : Job} (s : HasRoom input j work₀ sheet₀) where
+  pub enough-words : wordsOf (j .site) ≤ length work₀
+  unfolding rows inputRows formRows sizeRows mapRows jobRows roomRows holdsAt refusal shortWork workWords
+  enough-words =
+      let f = frame input in
+      let no = row-fails (rows f (length work₀) (length sheet₀)) (rows-numbered f (length work₀) (length sheet₀)) (s .accepted) in
+      rw (s .states .places, s .states .arcs) (ltb-false _ _ (no 14))
+
+  enough-bytes : 10 + 2 * j .site .places ≤ length sheet₀
+  unfolding rows inputRows formRows sizeRows mapRows jobRows roomRows holdsAt refusal shortSheet
+  enough-bytes =
+      let f = frame input in
+      let no = row-fails (rows f (length work₀) (length sheet₀)) (rows-numbered f (length work₀) (length sheet₀)) (s .accepted) in
+      rw (s .states .places) (ltb-false _ _ (no 15))
+
+  few-arcs : j .site .arcs ≤ maxArcs
+  unfolding rows inputRows formRows sizeRows mapRows jobRows roomRows holdsAt refusal wrongSize
+  few-arcs =
+      let f = frame input in
+      let no = row-fails (rows f (length work₀) (length sheet₀)) (rows-numbered f (length work₀) (length sheet₀)) (s .accepted) in
+      let n = stated (f .records) .size .places in
+      let m = stated (f .records) .size .arcs in
+      let range = neither (ltb n 1 || ltb maxPlaces n || ltb maxArcs m) _ (no 5) .0 in
+      rw (s .states .arcs) (ltb-false maxArcs m (neither (ltb n 1 || ltb maxPlaces n) _ range .1))
 
 -- a verdict's sheet can be written: its route, where it is one, has 1 to n places
-searched-writable : {n start allowance : ℕ} {loaded work : List ℕ} (v : Verdict) (sheet : List ℕ) → Valid (problemAt n start loaded)
-    → Searched n start allowance loaded work v → endsAt n ≤ length work → 10 + 2 * n ≤ length sheet → Writable n start v work sheet
+searched-writable : {s : Site} {allowance : ℕ} {loaded work : List ℕ} (v : Verdict) (sheet : List ℕ) → Valid (problemAt s loaded)
+    → Searched s allowance loaded work v → arcsAt (s .places) ≤ length work → 10 + 2 * s .places ≤ length sheet → Writable s v work sheet
 unfolding problemAt
-searched-writable (Spent f x q) sheet ok s words room = tt
-searched-writable (NoRoute l x q) sheet ok s words room =
-    record { room = omega arith }
-searched-writable {n} {start} {allowance} {loaded = loaded} (verdict.Routed c g l x q) sheet ok s words room =
-    let (r, is, follows) = s .means in
-    let can-be = searched-possible (problemAt n start loaded) ok allowance is in
+searched-writable (Spent v) sheet ok s words room = tt
+searched-writable (NoRoute v) sheet ok s words room = record { room = omega arith }
+searched-writable {s} {allowance} {loaded = loaded} (verdict.Routed v) sheet ok found words room =
+    let (r, is, follows) = found .means in
+    let can-be = routed-possible (problemAt s loaded) ok allowance is in
     let few = follows-few follows (can-be .different) in
     record { leads = record { few = ok .few-places; words = words; places = r; follows = follows; few-places = few }; room = room }
 
 module _ {input work₀ sheet₀ loaded work : List ℕ} {j : Job} {v : Verdict}
     (bytes : Bytes input)
-    (s : Stated input j work₀ sheet₀)
-    (l : Loaded input (j .map .places) (j .map .arcs) (j .start) work₀ loaded)
-    (found : Searched (j .map .places) (j .start) (j .allowance) loaded work v) where
-  pub writable : length work ≡ length loaded → Writable (j .map .places) (j .start) v work sheet₀
-  writable e = searched-writable v sheet₀ (l .holds .valid) found (omega (arith, l .holds .room)) (enough-bytes s)
+    (s : HasRoom input j work₀ sheet₀)
+    (l : Loaded input (j .site) work₀ loaded)
+    (found : Searched (j .site) (j .allowance) loaded work v) where
+  -- loading and searching have kept the length of the work area
+  pub concludable : length loaded ≡ length work₀ → length work ≡ length loaded → Concludable (j .site) v work sheet₀
+  unfolding problemAt
+  concludable e f =
+      record {
+        writable = searched-writable v sheet₀ (l .holds .valid) found (omega (arith, l .holds .room)) (enough-bytes s);
+        few = l .holds .valid .few-places;
+        few-arcs = few-arcs s;
+        room = omega (arith, enough-words s);
+      }
 
   -- the call ends as the search of the loaded problem does
-  loaded-ending : ending (frame input) (length work₀) (length sheet₀) ≡ endingOf (problemAt (j .map .places) (j .start) loaded) (j .allowance)
+  loaded-ending : budgeted (problemOf (stated (frame input .records))) (stated (frame input .records) .job .allowance)
+      ≡ budgeted (problemAt (j .site) loaded) (j .allowance)
   loaded-ending =
       let ok = accepted-valid input (length work₀) (length sheet₀) bytes (s .accepted) in
-      accepted-ending input (length work₀) (length sheet₀) (s .accepted)
-      ∙ rw (← (s .states .allowance)) (same-ending _ _ ok (l .holds .valid) (l .same) (j .allowance))
+      let p = problemOf (stated (frame input .records)) in
+      ap (budgeted p) (sym (s .states .allowance)) ∙ same-ending p _ ok (l .holds .valid) (l .same) (j .allowance)
 
-  -- an accepted input: the verdict's sheet and numbers, and the front of the work area zero
-  pub searched-routed : {written : ℕ} {sheet after : List ℕ} {r : Answer}
-      → Written (j .map .places) (j .start) v work sheet₀ written sheet
-      → after ≡ overFront (replicate (16 * j .map .places + 2 * j .map .arcs) 0) work₀
-      → answerOf r ≡ numbersOf v written
+  -- the words beyond those that the map asks for are as at the entry
+  front-zero : overFront (replicate (wordsOf (j .site)) 0) work ≡ overFront (replicate (wordsOf (j .site)) 0) work₀
+  unfolding overFront
+  front-zero = rw (length-replicate {A = ℕ} (wordsOf (j .site)) 0, rest-kept l found)
+
+  pub accepted-routed : {sheet after : List ℕ} {r : Answer} → Concluded (j .site) v work sheet₀ r after sheet
       → Routed input work₀ sheet₀ r after sheet
-  unfolding route workWords
-  searched-routed {written} {sheet} {r = r} w clear is =
-      let e = endingOf (problemAt (j .map .places) (j .start) loaded) (j .allowance) in
-      let over = w .over-front e (found .means) in
-      let numbers : answerOf r ≡ model.answerOf e =
-      is ∙ ap (numbersOf v) (w .sheet-bytes e (found .means)) ∙ searched-numbers v found in
-      let zeros = searched-cleared v found (workWords (frame input .records)) work₀ in
-      record { result = rw (loaded-ending, zeros, ← (s .states .places), ← (s .states .arcs), ← clear, ← over, ← numbers) }
+  unfolding call callIf endedWith workWords
+  accepted-routed c =
+      let e = budgeted (problemAt (j .site) loaded) (j .allowance) in
+      record {
+        result = c .result e (found .means)
+            ∙ rw (s .accepted, loaded-ending, ← (s .states .places), ← (s .states .arcs), front-zero);
+      }
 
 -- The same for a host, where the seven numbers are stored one by one into the lent words.
 pub routed-for : {input work₀ sheet₀ work sheet : List ℕ} {r : Answer} → Routed input work₀ sheet₀ r work sheet → (answer₀ answer : List ℕ)

@@ -1,24 +1,25 @@
 -- The work area after the call, and words stored one by one. Assumes nothing.
 use mathlib.Core.Path.{_≡_, refl, ap, _∙_}
 use mathlib.Core.List.{List, [], _∷_}
-use Prim.Native.Nat.{ℕ, suc, _+_, _-_, _*_, _≤_}
+use Prim.Native.Nat.{ℕ, suc, _-_, _≤_}
 use native.Mathlib.Omega.{arith}
 use lib.ListN.{length, take, drop, set, replicate, length-replicate}
 use lib.Seq.{sets, length-take-le}
 use borrow.Rule.Slice.PartMut.{putMid}
 use Rattle.area.proofs.Parts.{less-after}
-use Rattle.map.specs.Layout.{endsAt, arcsAt, Loaded}
+use Rattle.map.specs.declared.Site.{Site}
+use Rattle.layout.specs.Regions.{endsAt}
+use Rattle.load.specs.Loaded.{Loaded}
 use Rattle.model.specs.Answer.{overFront}
 use Rattle.search.specs.Rounds.{Searched}
 use Rattle.search.specs.declared.Verdict.{Verdict}
+use Rattle.router.specs.Steps.{wordsOf}
 
--- Loading and searching leave the words beyond the arcs as they were.
-pub rest-kept : {input work₀ loaded work : List ℕ} {n m start allowance : ℕ} {v : Verdict}
-    → Loaded input n m start work₀ loaded → Searched n start allowance loaded work v
-    → drop (16 * n + 2 * m) work ≡ drop (16 * n + 2 * m) work₀
-rest-kept {work₀ = work₀} {loaded = loaded} {work = work} {n = n} {m = m} l s =
-    less-after (16 * n + 2 * m) (endsAt n) loaded work (omega arith) (s .same-map)
-    ∙ less-after (16 * n + 2 * m) (arcsAt n + m) work₀ loaded (omega arith) (l .rest)
+-- Loading and searching leave the words beyond those that the map asks for as they were.
+pub rest-kept : {input work₀ loaded work : List ℕ} {s : Site} {allowance : ℕ} {v : Verdict}
+    → Loaded input s work₀ loaded → Searched s allowance loaded work v → drop (wordsOf s) work ≡ drop (wordsOf s) work₀
+rest-kept {loaded = loaded} {work = work} {s = s} l found =
+    less-after (wordsOf s) (endsAt (s .places)) loaded work (omega arith) (found .same-map) ∙ l .rest
 
 -- The front of the words comes back as zeros, and the rest is as in work₀.
 pub cleared : (need : ℕ) (work₀ work front : List ℕ) → need ≤ length work → drop need work ≡ drop need work₀

@@ -10,11 +10,10 @@ use native.Mathlib.Decide.{ℕ-discrete, decLt}
 use native.Mathlib.Omega.{arith}
 use lib.Dec.{ltb}
 use borrow.Author.Tests.{lt-ltb, le-ltb}
-use Rattle.open_list.specs.Entry.{noKey}
 use Rattle.model.specs.Lists.{consIf, filterMap, least, leastBy, lesser}
 use Rattle.model.proofs.Same.{same-least}
-use Rattle.scans.specs.Area.{wordOr}
-use Rattle.scans.proofs.Words.{wordOr-none, wordOr-some, wordOr-is}
+use Rattle.layout.specs.Labels.{noWord, wordOr}
+use Rattle.layout.proofs.Labels.{wordOr-none, wordOr-some, wordOr-is}
 
 pub lesser-below : (r u : ℕ) (o : Option ℕ) → ((y : ℕ) → o ≡ some y → y ≤ u) → ((y : ℕ) → wordOr r ≡ some y → y ≤ u)
     → (y : ℕ) → wordOr (lesser ltb r o) ≡ some y → y ≤ u
@@ -63,11 +62,11 @@ least-snoc xs x = same-least (xs ++ (x ∷ [])) (x ∷ xs) to from
     from y (List·Memᴰ·tail i) = Memᴰ·append-left (x ∷ []) i
 
 -- the lesser of a word and a number that is not the largest word
-word-snoc : (r x : ℕ) (xs : List ℕ) → x < noKey → wordOr r ≡ least xs → wordOr (lesser ltb r (some x)) ≡ least (xs ++ (x ∷ []))
+word-snoc : (r x : ℕ) (xs : List ℕ) → x < noWord → wordOr r ≡ least xs → wordOr (lesser ltb r (some x)) ≡ least (xs ++ (x ∷ []))
 unfolding lesser
-word-snoc r x xs l e = go (ℕ-discrete r noKey) ∙ sym (least-snoc xs x)
+word-snoc r x xs l e = go (ℕ-discrete r noWord) ∙ sym (least-snoc xs x)
   where
-    by : wordOr r ≡ some r → (r ≡ noKey → ⊥) → Dec (x < r) → wordOr (lesser ltb r (some x)) ≡ some (lesser ltb x (some r))
+    by : wordOr r ≡ some r → (r ≡ noWord → ⊥) → Dec (x < r) → wordOr (lesser ltb r (some x)) ≡ some (lesser ltb x (some r))
     by h k (yes q) = rw (lt-ltb x r q, le-ltb r x (omega arith)) (wordOr-some x (λ p. omega arith))
     by h k (no q) = go (decLt r x)
       where
@@ -75,20 +74,20 @@ word-snoc r x xs l e = go (ℕ-discrete r noKey) ∙ sym (least-snoc xs x)
         go (yes g) = rw (le-ltb x r (omega arith), lt-ltb r x g) h
         go (no g) = let same : x ≡ r = omega arith in rw (le-ltb x r (omega arith), le-ltb r x (omega arith), same) h
 
-    go : Dec (r ≡ noKey) → wordOr (lesser ltb r (some x)) ≡ some (lesser ltb x (least xs))
+    go : Dec (r ≡ noWord) → wordOr (lesser ltb r (some x)) ≡ some (lesser ltb x (least xs))
     go (yes p) =
         let nothing : least xs ≡ none = sym e ∙ wordOr-none r p in
-        rw (nothing, p, lt-ltb x noKey l) (wordOr-some x (λ q. omega arith))
+        rw (nothing, p, lt-ltb x noWord l) (wordOr-some x (λ q. omega arith))
     go (no p) =
         let found : least xs ≡ some r = sym e ∙ wordOr-some r p in
         rw found (by (wordOr-some r p) p (decLt x r))
 
 -- one element more
-pub word-step : {A : Type 0} (f : A → Option ℕ) (xs : List A) (a : A) (r : ℕ) → ((x : ℕ) → f a ≡ some x → x < noKey)
+pub word-step : {A : Type 0} (f : A → Option ℕ) (xs : List A) (a : A) (r : ℕ) → ((x : ℕ) → f a ≡ some x → x < noWord)
     → wordOr r ≡ least (filterMap f xs) → wordOr (lesser ltb r (f a)) ≡ least (filterMap f (xs ++ (a ∷ [])))
 unfolding filterMap consIf lesser
 word-step f xs a r h e = rw (filterMap-append f xs (a ∷ [])) (go (f a) h)
   where
-    go : (o : Option ℕ) → ((x : ℕ) → o ≡ some x → x < noKey) → wordOr (lesser ltb r o) ≡ least (filterMap f xs ++ consIf o [])
+    go : (o : Option ℕ) → ((x : ℕ) → o ≡ some x → x < noWord) → wordOr (lesser ltb r o) ≡ least (filterMap f xs ++ consIf o [])
     go none h = rw append-nil e
     go (some x) h = word-snoc r x (filterMap f xs) (h x refl) e

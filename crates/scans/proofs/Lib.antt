@@ -1,5 +1,4 @@
 -- Laws of the passes over the arcs.
-pub mod Words
 pub mod Least
 pub mod Rows
 pub mod NextLimit

@@ -1,126 +1,116 @@
 -- The parents that the arcs passed give, as arc after arc is passed. Places rise, so the first parent found is the lowest-numbered.
 -- Assumes nothing.
-use mathlib.Core.Path.{_≡_, refl, sym, ap, _∙_}
+use mathlib.Core.Path.{_≡_, refl, sym, _∙_}
 use mathlib.Core.Bool.{Bool, true, false, cond, _&&_}
 use mathlib.Core.List.{List, [], _∷_, _++_}
 use mathlib.Core.Option.{Option, none, some}
-use Prim.Native.Nat.{ℕ, suc, _+_, _-_, _/_, _%_, _≤_, _<_}
+use Prim.Native.Nat.{ℕ, suc, _+_, _≤_, _<_}
 use native.Mathlib.Decide.{ℕ-discrete}
-use native.Mathlib.Nat.{sub-zero}
 use native.Mathlib.Numerals.{add-one}
 use native.Mathlib.Omega.{arith}
 use lib.Dec.{ltb, eqb}
-use lib.ListN.{length, getD, set, replicate, length-set, length-replicate, getD-replicate}
-use lib.Seq.{take-set-le, drop-set-lt, getD-set-same, getD-set-other}
+use lib.ListN.{length}
 use borrow.Author.Tests.{lt-ltb, le-ltb, eq-eqb, ne-eqb}
-use borrow.Rule.Slice.PartMut.{putMid}
-use Rattle.area.specs.Part.{part}
-use Rattle.area.proofs.Parts.{part-length, part-back-low, drop-back, back-length, back-at}
-use Rattle.open_list.specs.Entry.{noKey}
-use Rattle.map.specs.Layout.{parentsAt, endsAt, arcsAt, rowStart, rowEnd, arcIn, rowsBelow, problemAt}
 use Rattle.model.specs.Costs.{Table, costAt}
 use Rattle.model.specs.Lists.{filterMap, leastBy, lesser}
 use Rattle.model.specs.Problem.{Arc}
 use Rattle.model.specs.Routes.{parentBy, parent}
 use Rattle.model.proofs.Lists.{none-some}
-use Rattle.model.proofs.Indices.{getD-default}
 use Rattle.model.proofs.Routes.{parentBy-some}
-use Rattle.scans.specs.Area.{wordOr, labels, Labelled, parentAt, HasParents}
-use Rattle.scans.specs.Scans.{ArcWord, parentStored, Kept, parentFrom, ParentsOver, ParentsRow, ParentsBelow, Parenting, ParentsUpTo}
-use Rattle.scans.proofs.Words.{wordOr-none, wordOr-some, label-at, unlabelled}
+use Rattle.map.specs.declared.Site.{Site}
+use Rattle.layout.specs.Regions.{arcsAt, labelWord, parentWord, arcWord, withParent, arcEnd, arcCost}
+use Rattle.layout.specs.Map.{rowStart, rowEnd, arcIn, rowsBelow, problemAt}
+use Rattle.layout.specs.Rows.{IsArcWord}
+use Rattle.layout.specs.Labels.{noWord, wordOr, labels, Labelled, Kept, NoParents}
+use Rattle.layout.proofs.Held.{map-word, rows-same, map-room, has-place}
+use Rattle.layout.proofs.Rows.{row-begins, row-goes-on, row-ends, next-arc, passed-start, passed-end, passed-step}
+use Rattle.layout.proofs.Labels.{wordOr-none, wordOr-some, label-at, unlabelled, kept-all, kept-on, labels-kept, labelled-kept}
+use Rattle.layout.proofs.Labels.{with-parent-kept, with-parent-same, with-parent-other, parent-word}
+use Rattle.scans.specs.Area.{HasParents}
+use Rattle.scans.specs.Scans.{parentStored, parentFrom, ParentsOver, ParentsRow, ParentsBelow, Parenting, ParentsUpTo}
 use Rattle.scans.proofs.Least.{lesser-below, word-step}
-use Rattle.map.proofs.Held.{map-word, rows-same}
-use Rattle.scans.proofs.Rows.{rows-room, has-row, row-nothing, row-begins, row-goes-on, arc-word}
-use Rattle.scans.proofs.Rows.{passed-start, passed-end, passed-step, labels-kept, labelled-kept, in-row-kept}
+use Rattle.scans.proofs.Rows.{row-nothing}
 
 -- ---- one arc
-pub stored-kept : (n u d x : ℕ) (w : List ℕ) → ArcWord n d x w → Kept n w (parentStored n u d x w)
+pub stored-kept : (n u d x : ℕ) (w : List ℕ) → IsArcWord n d x w → Kept n w (parentStored n u d x w)
 unfolding parentStored
-stored-kept n u d x w g = go (eqb (getD w (x / 65536) 0) (d + x % 65536) && eqb (getD w (parentsAt n + x / 65536) 0) noKey)
+stored-kept n u d x w g = go (eqb (labelWord w (arcEnd x)) (d + arcCost x) && eqb (parentWord n w (arcEnd x)) noWord)
   where
-    at : ℕ
-    at = parentsAt n + x / 65536
-
-    go : (b : Bool) → Kept n w (cond b (set w at u) w)
-    go true =
-        record {
-          same-length = length-set w at u;
-          same-labels = take-set-le n w at u (omega arith);
-          same-map = drop-set-lt (endsAt n) w at u (omega (arith, g .end-in));
-        }
-    go false = record { same-length = refl; same-labels = refl; same-map = refl }
+    go : (b : Bool) → Kept n w (cond b (withParent n w (arcEnd x) u) w)
+    go true = with-parent-kept n w (arcEnd x) u (g .end-in)
+    go false = kept-all n w
 
 -- the parent of v afterwards, where no parent is above u
-module _ (n u d x : ℕ) (w : List ℕ) (g : ArcWord n d x w) where
-  stored-other : (v : ℕ) → (v ≡ x / 65536 → ⊥) → getD (parentStored n u d x w) (parentsAt n + v) 0 ≡ getD w (parentsAt n + v) 0
+module _ (n u d x : ℕ) (w : List ℕ) (g : IsArcWord n d x w) where
+  stored-other : (v : ℕ) → (v ≡ arcEnd x → ⊥) → parentWord n (parentStored n u d x w) v ≡ parentWord n w v
   unfolding parentStored
-  stored-other v h = go (eqb (getD w (x / 65536) 0) (d + x % 65536) && eqb (getD w (parentsAt n + x / 65536) 0) noKey)
+  stored-other v h = go (eqb (labelWord w (arcEnd x)) (d + arcCost x) && eqb (parentWord n w (arcEnd x)) noWord)
     where
-      go : (b : Bool) → getD (cond b (set w (parentsAt n + x / 65536) u) w) (parentsAt n + v) 0 ≡ getD w (parentsAt n + v) 0
-      go true = getD-set-other w (parentsAt n + x / 65536) (parentsAt n + v) u 0 (λ e. h (omega arith))
+      go : (b : Bool) → parentWord n (cond b (withParent n w (arcEnd x) u) w) v ≡ parentWord n w v
+      go true = with-parent-other n w (arcEnd x) u v h
       go false = refl
 
-  pub stored-not : (getD w (x / 65536) 0 ≡ d + x % 65536 → ⊥) → parentStored n u d x w ≡ w
+  pub stored-not : (labelWord w (arcEnd x) ≡ d + arcCost x → ⊥) → parentStored n u d x w ≡ w
   unfolding parentStored
-  stored-not h = rw (ne-eqb (getD w (x / 65536) 0) (d + x % 65536) h)
+  stored-not h = rw (ne-eqb (labelWord w (arcEnd x)) (d + arcCost x) h)
 
-  pub stored-first : getD w (x / 65536) 0 ≡ d + x % 65536 → getD w (parentsAt n + x / 65536) 0 ≡ noKey
-      → parentStored n u d x w ≡ set w (parentsAt n + x / 65536) u
+  pub stored-first : labelWord w (arcEnd x) ≡ d + arcCost x → parentWord n w (arcEnd x) ≡ noWord
+      → parentStored n u d x w ≡ withParent n w (arcEnd x) u
   unfolding parentStored
-  stored-first h e = rw (eq-eqb (getD w (x / 65536) 0) (d + x % 65536) h, eq-eqb (getD w (parentsAt n + x / 65536) 0) noKey e)
+  stored-first h e = rw (eq-eqb (labelWord w (arcEnd x)) (d + arcCost x) h, eq-eqb (parentWord n w (arcEnd x)) noWord e)
 
-  pub stored-later : getD w (x / 65536) 0 ≡ d + x % 65536 → (getD w (parentsAt n + x / 65536) 0 ≡ noKey → ⊥) → parentStored n u d x w ≡ w
+  pub stored-later : labelWord w (arcEnd x) ≡ d + arcCost x → (parentWord n w (arcEnd x) ≡ noWord → ⊥) → parentStored n u d x w ≡ w
   unfolding parentStored
-  stored-later h e = rw (eq-eqb (getD w (x / 65536) 0) (d + x % 65536) h, ne-eqb (getD w (parentsAt n + x / 65536) 0) noKey e)
+  stored-later h e = rw (eq-eqb (labelWord w (arcEnd x)) (d + arcCost x) h, ne-eqb (parentWord n w (arcEnd x)) noWord e)
 
-  gives-none : (v : ℕ) (o : Option ℕ) → (v ≡ x / 65536 → ⊥) → parentBy (arcIn u x) v (some d) o ≡ none
+  gives-none : (v : ℕ) (o : Option ℕ) → (v ≡ arcEnd x → ⊥) → parentBy (arcIn u x) v (some d) o ≡ none
   unfolding parentBy arcIn
   gives-none v none h = refl
-  gives-none v (some e) h = rw (ne-eqb (x / 65536) v (λ q. h (sym q)))
+  gives-none v (some e) h = rw (ne-eqb (arcEnd x) v (λ q. h (sym q)))
 
-  gives-not : (v : ℕ) → v ≡ x / 65536 → (getD w v 0 ≡ d + x % 65536 → ⊥) → parentBy (arcIn u x) v (some d) (wordOr (getD w v 0)) ≡ none
+  gives-not : (v : ℕ) → v ≡ arcEnd x → (labelWord w v ≡ d + arcCost x → ⊥) → parentBy (arcIn u x) v (some d) (wordOr (labelWord w v)) ≡ none
   unfolding parentBy arcIn
-  gives-not v q h = go (ℕ-discrete (getD w v 0) noKey)
+  gives-not v q h = go (ℕ-discrete (labelWord w v) noWord)
     where
-      go : Dec (getD w v 0 ≡ noKey) → parentBy (arcIn u x) v (some d) (wordOr (getD w v 0)) ≡ none
-      go (yes e) = rw (wordOr-none (getD w v 0) e)
-      go (no e) = rw (wordOr-some (getD w v 0) e, eq-eqb (x / 65536) v (sym q), ne-eqb (d + x % 65536) (getD w v 0) (λ p. h (sym p)))
+      go : Dec (labelWord w v ≡ noWord) → parentBy (arcIn u x) v (some d) (wordOr (labelWord w v)) ≡ none
+      go (yes e) = rw (wordOr-none (labelWord w v) e)
+      go (no e) = rw (wordOr-some (labelWord w v) e, eq-eqb (arcEnd x) v (sym q), ne-eqb (d + arcCost x) (labelWord w v) (λ p. h (sym p)))
 
-  gives : (v : ℕ) → v ≡ x / 65536 → getD w v 0 ≡ d + x % 65536 → parentBy (arcIn u x) v (some d) (wordOr (getD w v 0)) ≡ some u
+  gives : (v : ℕ) → v ≡ arcEnd x → labelWord w v ≡ d + arcCost x → parentBy (arcIn u x) v (some d) (wordOr (labelWord w v)) ≡ some u
   unfolding parentBy arcIn
   gives v q h =
-      let label : wordOr (getD w v 0) ≡ some (getD w v 0) = wordOr-some (getD w v 0) (λ e. omega (arith, g .label-below)) in
-      rw (label, eq-eqb (x / 65536) v (sym q), eq-eqb (d + x % 65536) (getD w v 0) (sym h))
+      let label : wordOr (labelWord w v) ≡ some (labelWord w v) = wordOr-some (labelWord w v) (λ e. omega (arith, g .label-below)) in
+      rw (label, eq-eqb (arcEnd x) v (sym q), eq-eqb (d + arcCost x) (labelWord w v) (sym h))
 
-  stored-at : u < noKey → (v : ℕ) → v < n → ((y : ℕ) → wordOr (getD w (parentsAt n + v) 0) ≡ some y → y ≤ u)
-      → getD (parentStored n u d x w) (parentsAt n + v) 0
-      ≡ lesser ltb (getD w (parentsAt n + v) 0) (parentBy (arcIn u x) v (some d) (wordOr (getD w v 0)))
+  stored-at : u < noWord → (v : ℕ) → v < n → ((y : ℕ) → wordOr (parentWord n w v) ≡ some y → y ≤ u)
+      → parentWord n (parentStored n u d x w) v
+      ≡ lesser ltb (parentWord n w v) (parentBy (arcIn u x) v (some d) (wordOr (labelWord w v)))
   unfolding lesser
-  stored-at below v l low = by (ℕ-discrete v (x / 65536))
+  stored-at below v l low = by (ℕ-discrete v (arcEnd x))
     where
       r : ℕ
-      r = getD w (parentsAt n + v) 0
+      r = parentWord n w v
 
       Stored : Type 0
-      Stored = getD (parentStored n u d x w) (parentsAt n + v) 0 ≡ lesser ltb r (parentBy (arcIn u x) v (some d) (wordOr (getD w v 0)))
+      Stored = parentWord n (parentStored n u d x w) v ≡ lesser ltb r (parentBy (arcIn u x) v (some d) (wordOr (labelWord w v)))
 
-      found : v ≡ x / 65536 → getD w v 0 ≡ d + x % 65536 → Dec (r ≡ noKey) → Stored
+      found : v ≡ arcEnd x → labelWord w v ≡ d + arcCost x → Dec (r ≡ noWord) → Stored
       found q h (yes e) =
-          rw (gives v q h, e, lt-ltb u noKey below, stored-first (rw q at h) (rw q at e), ← q)
-          (getD-set-same w (parentsAt n + v) u 0 (omega (arith, g .room)))
+          rw (gives v q h, e, lt-ltb u noWord below, stored-first (rw q at h) (rw q at e), ← q)
+          (with-parent-same n w v u (omega (arith, g .room)))
       found q h (no e) =
           let first : r ≤ u = low r (wordOr-some r e) in
           rw (gives v q h, le-ltb u r first, stored-later (rw q at h) (rw q at e))
 
-      to-end : v ≡ x / 65536 → Dec (getD w v 0 ≡ d + x % 65536) → Stored
-      to-end q (yes h) = found q h (ℕ-discrete r noKey)
+      to-end : v ≡ arcEnd x → Dec (labelWord w v ≡ d + arcCost x) → Stored
+      to-end q (yes h) = found q h (ℕ-discrete r noWord)
       to-end q (no h) = rw (gives-not v q h, stored-not (rw q at h))
 
-      by : Dec (v ≡ x / 65536) → Stored
-      by (yes q) = to-end q (ℕ-discrete (getD w v 0) (d + x % 65536))
-      by (no q) = rw (gives-none v (wordOr (getD w v 0)) q) (stored-other v q)
+      by : Dec (v ≡ arcEnd x) → Stored
+      by (yes q) = to-end q (ℕ-discrete (labelWord w v) (d + arcCost x))
+      by (no q) = rw (gives-none v (wordOr (labelWord w v)) q) (stored-other v q)
 
-module _ (n u d x : ℕ) (w : List ℕ) (g : ArcWord n d x w) (below : u < noKey) where
+module _ (n u d x : ℕ) (w : List ℕ) (g : IsArcWord n d x w) (below : u < noWord) where
   pub parents-step : (t : Table) (arcs : List Arc) → labels n w ≡ t → costAt t u ≡ some d
       → ParentsOver n t arcs u w → ParentsOver n t (arcs ++ (arcIn u x ∷ [])) u (parentStored n u d x w)
   unfolding arcIn parentFrom
@@ -128,94 +118,89 @@ module _ (n u d x : ℕ) (w : List ℕ) (g : ArcWord n d x w) (below : u < noKey
       record {
         lowest = λ v h.
             rw (stored v h)
-            (simp label at (word-step (parentFrom t v) arcs (arcIn u x) (getD w (parentsAt n + v) 0) (found v) (so-far .lowest v h)));
+            (simp label at (word-step (parentFrom t v) arcs (arcIn u x) (parentWord n w v) (found v) (so-far .lowest v h)));
         none-above = λ v y h e.
-            lesser-below (getD w (parentsAt n + v) 0) u (parentBy (arcIn u x) v (some d) (costAt t v)) (not-above v)
+            lesser-below (parentWord n w v) u (parentBy (arcIn u x) v (some d) (costAt t v)) (not-above v)
             (λ z. so-far .none-above v z h) y (rw (stored v h) at e);
       }
     where
       not-above : (v y : ℕ) → parentBy (arcIn u x) v (some d) (costAt t v) ≡ some y → y ≤ u
       not-above v y e = omega (arith, parentBy-some (arcIn u x) v (some d) (costAt t v) y e .4)
 
-      found : (v y : ℕ) → parentFrom t v (arcIn u x) ≡ some y → y < noKey
+      found : (v y : ℕ) → parentFrom t v (arcIn u x) ≡ some y → y < noWord
       found v y e = omega (arith, not-above v y (rw label at e))
 
-      stored : (v : ℕ) → v < n → getD (parentStored n u d x w) (parentsAt n + v) 0
-          ≡ lesser ltb (getD w (parentsAt n + v) 0) (parentBy (arcIn u x) v (some d) (costAt t v))
+      stored : (v : ℕ) → v < n → parentWord n (parentStored n u d x w) v
+          ≡ lesser ltb (parentWord n w v) (parentBy (arcIn u x) v (some d) (costAt t v))
       stored v h =
-          let word : costAt t v ≡ wordOr (getD w v 0) = rw same at (label-at n w v h (omega (arith, g .room))) in
+          let word : costAt t v ≡ wordOr (labelWord w v) = rw same at (label-at n w v h (omega (arith, g .room))) in
           rw word (stored-at n u d x w g below v h (λ y. so-far .none-above v y h))
 
 -- ---- the row of one place
-kept-all : (n : ℕ) (w : List ℕ) → Kept n w w
-kept-all n w = record { same-length = refl; same-labels = refl; same-map = refl }
-
-kept-on : (n : ℕ) (w₀ w₁ w : List ℕ) → Kept n w₀ w₁ → Kept n w₁ w → Kept n w₀ w
-kept-on n w₀ w₁ w j k =
-    record {
-      same-length = k .same-length ∙ j .same-length;
-      same-labels = k .same-labels ∙ j .same-labels;
-      same-map = k .same-map ∙ j .same-map;
-    }
-
 above-next : (n u : ℕ) (t : Table) (arcs : List Arc) (w : List ℕ) → ParentsOver n t arcs u w → ParentsOver n t arcs (suc u) w
 above-next n u t arcs w v = record { lowest = v .lowest; none-above = λ p y h e. omega (arith, v .none-above p y h e) }
 
--- a place with no label is no parent
-pub no-parents : (n u : ℕ) (w : List ℕ) → ParentsRow n u w → getD w u 0 ≡ noKey → ParentsBelow n (suc u) w w
-unfolding parentFrom parentBy arcIn
-no-parents n u w g h =
-    let t : Table = labels n w in
-    let label : costAt t u ≡ none = unlabelled n w (omega (arith, g .row .room)) u (g .row .place) h in
-    let over : ParentsOver n t (rowsBelow n w (suc u)) u w
-    = record {
-      lowest = λ v l. rw (row-nothing n w u (parentFrom t v) (λ x. rw label)) (g .so-far .lowest v l);
-      none-above = g .so-far .none-above;
-    } in
-    record { kept = kept-all n w; so-far = above-next n u t (rowsBelow n w (suc u)) w over }
+module _ (s : Site) (u : ℕ) (w : List ℕ) (g : ParentsRow s u w) where
+  -- a place with no label is no parent
+  pub no-parents : labelWord w u ≡ noWord → ParentsBelow (s .places) (suc u) w w
+  unfolding parentFrom parentBy arcIn
+  no-parents h =
+      let n = s .places in
+      let t : Table = labels n w in
+      let label : costAt t u ≡ none = unlabelled n w (omega (arith, g .row .room)) u (g .row .place) h in
+      let over : ParentsOver n t (rowsBelow n w (suc u)) u w
+      = record {
+        lowest = λ v l. rw (row-nothing n w u (parentFrom t v) (λ x. rw label)) (g .so-far .lowest v l);
+        none-above = g .so-far .none-above;
+      } in
+      record { kept = kept-all n w; so-far = above-next n u t (rowsBelow n w (suc u)) w over }
 
-pub parenting-start : (n u end : ℕ) (w : List ℕ) → ParentsRow n u w → end ≡ rowEnd n w u → Parenting n u (rowStart n w u) end w w
-parenting-start n u end w g e =
-    record {
-      inside = row-begins n w (g .labelled) u end (g .row) e;
-      kept = kept-all n w;
-      so-far = rw (passed-start n w (rowsBelow n w u) u) (g .so-far);
-    }
+  pub parenting-start : (k end : ℕ) → k ≡ rowStart (s .places) w u → end ≡ rowEnd (s .places) w u → Parenting (s .places) u k end w w
+  parenting-start k end p q =
+      let n = s .places in
+      record {
+        inside = row-begins s w (g .labelled .holds) u k end (g .row .place) p q;
+        kept = kept-all n w;
+        so-far = rw (p, passed-start n w (rowsBelow n w u) u) (g .so-far);
+      }
 
-module _ (n u d k end : ℕ) (w₀ w : List ℕ) (g : Labelled n w₀) (label : costAt (labels n w₀) u ≡ some d)
-    (v : Parenting n u k end w₀ w) (l : k < end) where
-  pub parenting-arc : ArcWord n d (getD w (arcsAt n + k) 0) w
-  parenting-arc =
-      arc-word n w (labelled-kept n w₀ w (v .kept) g) u d k end (rw (labels-kept n w₀ w (v .kept)) label)
-      (in-row-kept n u k end w₀ w (v .kept) (v .inside)) l
+module _ (s : Site) (u d k end : ℕ) (w₀ w : List ℕ) (g : Labelled s w₀) (label : costAt (labels (s .places) w₀) u ≡ some d)
+    (v : Parenting (s .places) u k end w₀ w) (l : k < end) where
+  abbrev n : ℕ
+  n = s .places
 
-  pub parenting-step : Parenting n u (k + 1) end w₀ (parentStored n u d (getD w (arcsAt n + k) 0) w)
+  pub parenting-arc : IsArcWord n d (arcWord n w k) w
+  parenting-arc = next-arc s w₀ w (v .kept .same-length) (v .kept .same-map) (g .holds) d u k end (g .label-below u d label) (v .inside) l
+
+  pub parenting-step : Parenting n u (k + 1) end w₀ (parentStored n u d (arcWord n w k) w)
   parenting-step =
-      let x : ℕ = getD w (arcsAt n + k) 0 in
-      let same : getD w₀ (arcsAt n + k) 0 ≡ x = sym (map-word n w w₀ (v .kept .same-map) (arcsAt n + k) (omega arith)) in
-      let below : u < noKey = omega (arith, v .inside .row) in
+      let x : ℕ = arcWord n w k in
+      let same : arcWord n w₀ k ≡ x = sym (map-word n w w₀ (v .kept .same-map) (arcsAt n + k) (omega arith)) in
+      let below : u < noWord = omega (arith, v .inside .row) in
       record {
         inside = row-goes-on n u k end w₀ (v .inside) l;
         kept = kept-on n w₀ w (parentStored n u d x w) (v .kept) (stored-kept n u d x w parenting-arc);
-        so-far = rw (passed-step n w₀ (rowsBelow n w₀ u) u k (v .inside .from-start) (omega (arith, v .inside .room)), same)
+        so-far = rw (passed-step n w₀ (rowsBelow n w₀ u) u k end (v .inside) l, same)
             (parents-step n u d x w parenting-arc below (labels n w₀) _ (labels-kept n w₀ w (v .kept)) label (v .so-far));
       }
 
 pub parenting-end : (n u k end : ℕ) (w₀ w : List ℕ) → Parenting n u k end w₀ w → end ≤ k → ParentsBelow n (suc u) w₀ w
 unfolding rowsBelow
 parenting-end n u k end w₀ w v l =
-    let at-end : k ≡ rowEnd n w₀ u = omega (arith, v .inside .to-end, v .inside .is-end) in
-    let over : ParentsOver n (labels n w₀) (rowsBelow n w₀ (suc u)) u w = rw (← passed-end n w₀ (rowsBelow n w₀ u) u, ← at-end) (v .so-far) in
-    record { kept = v .kept; so-far = above-next n u (labels n w₀) (rowsBelow n w₀ (suc u)) w over }
+    let rows = rowsBelow n w₀ (suc u) in
+    let over : ParentsOver n (labels n w₀) rows u w =
+    rw (← passed-end n w₀ (rowsBelow n w₀ u) u, ← row-ends n u k end w₀ (v .inside) l) (v .so-far) in
+    record { kept = v .kept; so-far = above-next n u (labels n w₀) rows w over }
 
 -- ---- all rows
-pub parents-row : (n u : ℕ) (w₀ w : List ℕ) → u < n → ParentsUpTo n u w₀ w → ParentsRow n u w
-parents-row n u w₀ w h v =
+pub parents-row : (s : Site) (u : ℕ) (w₀ w : List ℕ) → u < s .places → ParentsUpTo s u w₀ w → ParentsRow s u w
+parents-row s u w₀ w h v =
+    let n = s .places in
     let kept : Kept n w₀ w = v .so-far .kept in
-    let labelled : Labelled n w = labelled-kept n w₀ w kept (v .labelled) in
+    let labelled : Labelled s w = labelled-kept s w₀ w kept (v .labelled) in
     record {
       labelled = labelled;
-      row = has-row n w labelled u h;
+      row = has-place s w (labelled .holds) u h;
       so-far = rw (labels-kept n w₀ w kept, rows-same n w w₀ (kept .same-map) u) (v .so-far .so-far);
     }
 
@@ -227,56 +212,30 @@ parents-on n u w₀ w₁ w k v =
       so-far = rw (← labels-kept n w₀ w₁ k, ← rows-same n w₁ w₀ (k .same-map) u) (v .so-far);
     }
 
-pub one-row-more : (n u : ℕ) (w₀ w₁ w : List ℕ) → u < n → ParentsUpTo n u w₀ w₁ → ParentsBelow n (suc u) w₁ w → ParentsUpTo n (u + 1) w₀ w
-one-row-more n u w₀ w₁ w h j v =
-    record { labelled = j .labelled; to-end = omega arith; so-far = rw add-one (parents-on n (suc u) w₀ w₁ w (j .so-far .kept) v) }
+pub one-row-more : (s : Site) (u : ℕ) (w₀ w₁ w : List ℕ) → u < s .places → ParentsUpTo s u w₀ w₁ → ParentsBelow (s .places) (suc u) w₁ w
+    → ParentsUpTo s (u + 1) w₀ w
+one-row-more s u w₀ w₁ w h j v =
+    record { labelled = j .labelled; to-end = omega arith; so-far = rw add-one (parents-on (s .places) (suc u) w₀ w₁ w (j .so-far .kept) v) }
+
+-- before the first row no place has a parent
+pub no-rows : (s : Site) (w₀ w : List ℕ) → Labelled s w₀ → NoParents (s .places) w₀ w → ParentsUpTo s 0 w w
+unfolding rowsBelow filterMap leastBy
+no-rows s w₀ w g c =
+    let none : (v : ℕ) → v < s .places → wordOr (parentWord (s .places) w v) ≡ none = λ v l. wordOr-none _ (c .none v l) in
+    let over : ParentsOver (s .places) (labels (s .places) w) (rowsBelow (s .places) w 0) 0 w =
+    record { lowest = none; none-above = λ v y l f. none-some (sym (none v l) ∙ f) } in
+    record { labelled = labelled-kept s w₀ w (c .kept) g; to-end = omega arith; so-far = record { kept = kept-all (s .places) w; so-far = over } }
 
 -- the pass began on the words w₁, with the labels and the map of w₀
-pub all-rows : (n u : ℕ) (w₀ w₁ w : List ℕ) → Labelled n w₀ → Kept n w₀ w₁ → ParentsUpTo n u w₁ w → n ≤ u → HasParents n w₀ w
-unfolding parent parentFrom problemAt parentAt
-all-rows n u w₀ w₁ w g k v h =
+pub all-rows : (s : Site) (u : ℕ) (w₀ w₁ w : List ℕ) → Kept (s .places) w₀ w₁ → ParentsUpTo s u w₁ w → s .places ≤ u → HasParents s w₀ w
+unfolding parent parentFrom problemAt
+all-rows s u w₀ w₁ w k v h =
+    let n = s .places in
     let end : u ≡ n = omega (arith, v .to-end) in
     let all : ParentsBelow n n w₀ w = rw end at (parents-on n u w₀ w₁ w k (v .so-far)) in
+    let room : arcsAt n ≤ length w = omega (arith, map-room s w₁ (v .labelled .holds), v .so-far .kept .same-length) in
     record {
       same-labels = all .kept .same-labels;
       same-map = all .kept .same-map;
-      parents = λ start p l.
-          ap wordOr (getD-default w (parentsAt n + p) noKey 0 (omega (arith, all .kept .same-length, rows-room n w₀ g)))
-          ∙ all .so-far .lowest p l;
+      parents = λ p l. sym (parent-word n p w (omega arith)) ∙ all .so-far .lowest p l;
     }
-
--- before the first row the parents are filled with the largest word
-module _ (n a e : ℕ) (w ys : List ℕ) (p : a ≡ parentsAt n) (q : e ≡ a + n) (g : Labelled n w)
-    (h : ys ≡ replicate (length (part a e w)) noKey) where
-  room : e ≤ length w
-  room = omega (arith, rows-room n w g)
-
-  same : length ys ≡ length (part a e w)
-  same = ap length h ∙ length-replicate (length (part a e w)) noKey
-
-  pub filled-kept : Kept n w (putMid a (e - a) w ys)
-  unfolding part
-  filled-kept =
-      record {
-        same-length = back-length a e w ys same;
-        same-labels = simp sub-zero at (part-back-low a e w ys 0 n (omega arith) room (omega arith) (omega arith));
-        same-map = drop-back a e w ys (endsAt n) (omega arith) room same (omega arith);
-      }
-
-  filled-none : (v : ℕ) → v < n → wordOr (getD (putMid a (e - a) w ys) (parentsAt n + v) 0) ≡ none
-  filled-none v l =
-      let words : length (part a e w) ≡ n = part-length a e w room ∙ omega arith in
-      let word : getD ys v 0 ≡ noKey = rw h (getD-replicate (length (part a e w)) v noKey 0 (omega arith)) in
-      wordOr-none _ (rw (← p) (back-at a e w ys v (omega arith) room same (omega arith) ∙ word))
-
-  pub no-rows : ParentsUpTo n 0 (putMid a (e - a) w ys) (putMid a (e - a) w ys)
-  unfolding rowsBelow filterMap leastBy
-  no-rows =
-      record {
-        labelled = labelled-kept n w (putMid a (e - a) w ys) filled-kept g;
-        to-end = omega arith;
-        so-far = record {
-          kept = kept-all n (putMid a (e - a) w ys);
-          so-far = record { lowest = filled-none; none-above = λ v y l f. none-some (sym (filled-none v l) ∙ f) };
-        };
-      }

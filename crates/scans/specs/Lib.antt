@@ -1,3 +1,3 @@
--- What a search keeps in the work area, and what a pass over the arcs gives.
+-- What a pass over the arcs asks and gives, and what it keeps while under way.
 pub mod Area
 pub mod Scans

@@ -5,7 +5,12 @@ use mathlib.Core.Option.{Option, none, some, Option·some-injective}
 use Prim.Native.Nat.{ℕ, zero, suc, _≤_, _<_}
 use native.Mathlib.Nat.{le-refl}
 use native.Mathlib.Omega.{arith}
-use Rattle.map.specs.Layout.{problemAt}
+use lib.ListN.{drop}
+use Rattle.map.specs.declared.Site.{Site}
+use Rattle.layout.specs.Regions.{endsAt}
+use Rattle.layout.specs.Map.{problemAt}
+use Rattle.layout.specs.Labels.{labels, parentAt, Follows, first, after}
+use Rattle.layout.proofs.Held.{problem-same}
 use Rattle.model.specs.Problem.{Problem, Arc, Valid}
 use Rattle.model.specs.Costs.{Table, costAt, table}
 use Rattle.model.specs.Routes.{parentBy, parent, extend, routeUpTo, routeTo}
@@ -13,9 +18,9 @@ use Rattle.model.proofs.LeastCosts.{entry-place}
 use Rattle.model.proofs.Keys.{first-goal-some}
 use Rattle.model.proofs.Routes.{parentBy-some, parent-via}
 use Rattle.model.proofs.Same.{option-ext, same-least-image}
-use Rattle.scans.specs.Area.{labels, parentAt, Follows, first, after, HasParents}
-use Rattle.query.specs.Query.{Agrees, FoundAt}
+use Rattle.scans.specs.Area.{HasParents}
 use Rattle.scans.specs.Scans.{parentFrom}
+use Rattle.query.specs.Query.{Agrees, FoundAt}
 
 -- costs below d that are the same give the same parents to a place of cost d
 same-parent-by : (a : Arc) (v d : ℕ) (o e : Option ℕ) → 1 ≤ a .cost → ((x : ℕ) → o ≡ some x → x < d → e ≡ some x)
@@ -69,12 +74,16 @@ module _ (p : Problem) (ok : Valid p) (C : ℕ) (label : Table) (cost : ℕ) (ag
             after (place v d e) (parents v (place v d e) ∙ same-parent v d l e h ∙ q)
             (rest u (by .before) known entry (omega arith) (omega arith))
 
--- The goal that a query found: following the parents back from it leads along the route that the definitions give.
-pub follows-route : (p : Problem) → Valid p → (C n start goal : ℕ) (w₀ w : List ℕ) → problemAt n start w₀ ≡ p → (f : FoundAt p C n goal w₀)
-    → HasParents n w₀ w → Follows n w goal (routeTo p (table p C) (record { cost = f .cost; place = goal }))
+-- The goal that a query found, in words w₁ with the map of w₀: following the parents back from it leads along the route that the definitions
+-- give.
+pub follows-route : (s : Site) (C goal : ℕ) (w₀ w₁ w : List ℕ) → Valid (problemAt s w₀) → drop (endsAt (s .places)) w₁ ≡ drop (endsAt (s .places)) w₀
+    → (f : FoundAt (problemAt s w₀) C goal w₁) → HasParents s w₁ w
+    → Follows (s .places) w goal (routeTo (problemAt s w₀) (table (problemAt s w₀) C) (record { cost = f .cost; place = goal }))
 unfolding routeTo problemAt
-follows-route p ok C n start goal w₀ w same f h =
+follows-route s C goal w₀ w₁ w ok same f h =
+    let p = problemAt s w₀ in
+    let t = labels (s .places) w₁ in
     let entry = first-goal-some p (table p C) (record { cost = f .cost; place = goal }) (f .is-first) .entry in
-    follows-up-to p ok C (labels n w₀) (f .cost) (f .agrees) n w (ap (λ (q : Problem). q .places) (sym same))
-    (λ v i. h .parents start v i ∙ ap (λ (q : Problem). parent q (labels n w₀) v) same)
+    follows-up-to p ok C t (f .cost) (f .agrees) (s .places) w refl
+    (λ v i. h .parents v i ∙ ap (λ (q : Problem). parent q t v) (problem-same s w₁ w₀ same))
     (f .cost) goal (f .cost) (f .label) entry (le-refl (f .cost)) (le-refl (f .cost))

@@ -1,35 +1,37 @@
 -- A turn of the rounds: from the area and the round's record as a query begins to the next turn or the end. Assumes nothing.
-use mathlib.Core.Path.{_≡_, refl, sym, ap, ap₂, _∙_}
+use mathlib.Core.Path.{_≡_, refl, sym, ap, _∙_}
 use mathlib.Core.Bool.{Bool, true, false}
 use mathlib.Core.List.{List}
 use mathlib.Core.Option.{some}
 use Prim.Native.Nat.{ℕ, _+_, _-_, _*_, _^_, _≤_, _<_}
+use native.Mathlib.Nat.{mul-le-mul}
 use native.Mathlib.Omega.{arith}
-use lib.ListN.{length, getD, drop}
-use borrow.Author.Tests.{lt-ltb}
-use Rattle.map.specs.Layout.{endsAt, estimatesAt, problemAt, Holds}
+use lib.ListN.{length, drop}
+use Rattle.map.specs.declared.Site.{Site}
+use Rattle.layout.specs.Regions.{endsAt, estimateWord, HasPlace}
+use Rattle.layout.specs.Map.{problemAt, Holds}
+use Rattle.layout.proofs.Held.{problem-same, holds-same, few-places, map-room, has-place, estimate-word}
 use Rattle.model.specs.Limits.{maxPlaces}
 use Rattle.model.specs.Problem.{Problem, Valid}
 use Rattle.model.specs.Costs.{table}
 use Rattle.model.specs.Query as model
 use Rattle.model.specs.Query.{Key, query}
 use Rattle.model.specs.Rounds as rounds
-use Rattle.model.specs.Rounds.{firstRound, limitOf, ask, next, trace, search}
+use Rattle.model.specs.Rounds.{firstRound, limitOf, ask, next, trace}
 use Rattle.model.specs.Routes.{routeTo}
-use Rattle.model.specs.Answer.{routed, searched}
+use Rattle.model.specs.Endings.{routed, budgeted}
 use Rattle.model.proofs.Laws as laws
-use Rattle.scans.specs.Area.{Follows}
 use Rattle.query.specs.Query.{Ready, Preparable, outcomeOf, Askable, Answered, FoundAt}
-use Rattle.search.specs.Rounds.{highOf, roundOf, Searched}
-use Rattle.search.specs.Underway.{RoundAfter, GoalLabelled, Parented, Underway, BetweenQueries}
 use Rattle.query.specs.declared.Asked.{Asked}
-use Rattle.search.specs.declared.High.the-variants.{Unset}
 use Rattle.query.specs.declared.Outcome.{Outcome}
 use Rattle.query.specs.declared.Outcome.the-variants.{Ended, Over, Found, None}
+use Rattle.search.specs.Rounds.{highOf, roundOf, reachedBy, Searched}
+use Rattle.search.specs.Underway.{BudgetFitsAfter, RoundAfter, GoalLabelled, Parented, Underway, BetweenQueries}
+use Rattle.search.specs.declared.High.the-variants.{Unset}
+use Rattle.search.specs.declared.Reached.{Reached}
 use Rattle.search.specs.declared.Round.{Round}
 use Rattle.search.specs.declared.Verdict.{Verdict}
 use Rattle.search.specs.declared.Verdict.the-variants.{Spent, NoRoute}
-use Rattle.map.proofs.Held.{problem-same, holds-same}
 use Rattle.search.proofs.FoundRoutes.{follows-route}
 use Rattle.search.proofs.RoundsUnderway as underway
 
@@ -37,101 +39,86 @@ use Rattle.search.proofs.RoundsUnderway as underway
 abbrev pub limitIn : Round → ℕ
 limitIn round = limitOf (round .low) (highOf (round .high))
 
--- the sizes of a map that words hold
-pub record Sizes (n start : ℕ) (w : List ℕ) : Type 0 where
-  pub few : n ≤ maxPlaces
-  pub start-place : start < n
-  pub estimate-in : estimatesAt n + start < length w
-
 -- what is searched over words with the same map is searched over the others
-pub searched-same : {n start a : ℕ} {w₀ w₁ w : List ℕ} {v : Verdict} → drop (endsAt n) w₁ ≡ drop (endsAt n) w₀ → Searched n start a w₁ w v
-    → Searched n start a w₀ w v
-searched-same {n} {start} {a} {w₀} {w₁} same s =
-    record { same-map = s .same-map ∙ same; means = rw (problem-same n w₁ w₀ same start) at (s .means) }
+pub searched-same : {s : Site} {a : ℕ} {w₀ w₁ w : List ℕ} {v : Verdict} → drop (endsAt (s .places)) w₁ ≡ drop (endsAt (s .places)) w₀
+    → Searched s a w₁ w v → Searched s a w₀ w v
+searched-same {s} {a} {w₀} {w₁} same h = record { same-map = h .same-map ∙ same; means = rw (problem-same s w₁ w₀ same) at (h .means) }
 
--- A query has ended: it began in the round, with total t after q queries, in the area w of a search that began with w₀, and left w′ and r.
-pub record Turn (n m arcs start a : ℕ) (w₀ w : List ℕ) (round : Round) (t q limit : ℕ) (w′ : List ℕ) (r : Asked) : Type 0 where
-  pub holds : Holds n arcs start w₀
-  pub between : BetweenQueries n m start a w₀ w round t q
+-- A query has ended: it began in the round, with t expansions after q queries, in the area w of a search that began with w₀, and left w′ and r.
+pub record Turn (s : Site) (a : ℕ) (w₀ w : List ℕ) (round : Round) (t q limit : ℕ) (w′ : List ℕ) (r : Asked) : Type 0 where
+  pub holds : Holds s w₀
+  pub between : BetweenQueries s a w₀ w round t q
   pub limit-is : limit ≡ limitIn round
-  pub answered : Answered n m start limit (round .budget) (a - t) w w′ r
+  pub answered : Answered s limit (round .budget) (a - t) w w′ r
   pub same-length : length w′ ≡ length w
 
-module _ {n arcs start : ℕ} {w₀ : List ℕ} (holds : Holds n arcs start w₀) where
-  pub sizes : Sizes n start w₀
+module _ {s : Site} {w₀ : List ℕ} (holds : Holds s w₀) where
+  pub start-place : HasPlace (s .places) (s .start) w₀
   unfolding problemAt
-  sizes =
-      let low : start < n = holds .valid .start-below in
-      record { few = holds .valid .few-places; start-place = low; estimate-in = omega (arith, holds .room) }
+  start-place = has-place s w₀ holds (s .start) (holds .valid .start-below)
 
-  pub preparable : Preparable n w₀
+  pub preparable : Preparable (s .places) w₀
   unfolding problemAt
-  preparable = record { places = record { some = holds .valid .some-place; few = sizes .few }; words = omega (arith, holds .room) }
-
-  first-low : getD w₀ (estimatesAt n + start) 0 ≡ problemAt n start w₀ .estimate (problemAt n start w₀ .start)
-  unfolding problemAt
-  first-low = rw (lt-ltb start n (sizes .start-place))
+  preparable = record { some = holds .valid .some-place; few = few-places s w₀ holds; words = map-room s w₀ holds }
 
   -- the search begins in the first round
-  pub begins : (m : ℕ) → Ready n m w₀ → (a low : ℕ) (o : Outcome) → low ≡ getD w₀ (estimatesAt n + start) 0
-      → BetweenQueries n m start a w₀ w₀ (record { low = low; high = Unset; budget = 1; outcome = o }) 0 0
-  unfolding firstRound
-  begins m ready a low o e =
+  pub begins : Ready (s .places) w₀ → (a low : ℕ) (o : Outcome) → low ≡ estimateWord (s .places) w₀ (s .start)
+      → BetweenQueries s a w₀ w₀ (record { low = low; high = Unset; budget = 1; outcome = o }) 0 0
+  unfolding firstRound problemAt
+  begins ready a low o e =
       record {
         same-map = refl;
         same-length = refl;
         ready = ready;
-        underway = rw (e, first-low) (underway.begins (problemAt n start w₀) (holds .valid) a (outcomeOf o));
+        underway = rw (e, ← estimate-word s w₀ (s .start) (start-place .place)) (underway.begins (problemAt s w₀) (holds .valid) a (outcomeOf o));
       }
 
-  module _ {m a : ℕ} {w : List ℕ} {round : Round} {t q : ℕ} (s : BetweenQueries n m start a w₀ w round t q) where
+  module _ {a : ℕ} {w : List ℕ} {round : Round} {t q : ℕ} (between : BetweenQueries s a w₀ w round t q) where
     abbrev p : Problem
-    p = problemAt n start w₀
+    p = problemAt s w₀
 
     pub limit-below : limitIn round < 2 ^ 30
-    limit-below = underway.asked-limit-below p (holds .valid) a (s .underway)
+    limit-below = underway.asked-limit-below p (holds .valid) a (between .underway)
 
-    start-low : p .estimate start ≤ limitIn round
+    start-low : p .estimate (s .start) ≤ limitIn round
     unfolding problemAt
-    start-low = underway.start-within-asked p (holds .valid) a (s .underway)
+    start-low = underway.start-within-asked p (holds .valid) a (between .underway)
 
-    pub askable : (limit : ℕ) → limit ≡ limitIn round → Askable n m arcs start limit w
+    pub askable : (limit : ℕ) → limit ≡ limitIn round → Askable s limit w
     askable limit is =
         record {
-          holds = holds-same n w w₀ (s .same-map) arcs start (s .same-length) holds;
-          ready = s .ready;
-          start-within = rw (problem-same n w w₀ (s .same-map) start, is) start-low;
+          holds = holds-same s w w₀ (between .same-map) (between .same-length) holds;
+          ready = between .ready;
+          start-within = rw (problem-same s w w₀ (between .same-map), is) start-low;
           limit-below = rw is limit-below;
         }
 
-    pub budget-below : round .budget ≤ 2 * maxPlaces
-    unfolding problemAt
-    budget-below = omega (arith, underway.asked-budget-at-most p (holds .valid) a (s .underway), sizes)
-
-    -- the query that begins is one of the trace's, so that the queries can be counted
     pub query-left : q < length (trace p)
-    query-left = underway.query-left p (holds .valid) a (s .underway)
+    query-left = underway.query-left p (holds .valid) a (between .underway)
 
     pub queries-below : q < 59 * maxPlaces
     unfolding problemAt
-    queries-below = omega (arith, query-left, laws.trace-length p (holds .valid), sizes)
+    queries-below = omega (arith, query-left, laws.trace-length p (holds .valid), few-places s w₀ holds)
 
-module _ {n m arcs start a : ℕ} {w₀ w : List ℕ} {round : Round} {t q limit : ℕ} {w′ : List ℕ} {r : Asked}
-    (u : Turn n m arcs start a w₀ w round t q limit w′ r) where
+module _ {s : Site} {a : ℕ} {w₀ w : List ℕ} {round : Round} {t q limit : ℕ} {w′ : List ℕ} {r : Asked}
+    (u : Turn s a w₀ w round t q limit w′ r) where
   abbrev problem : Problem
-  problem = problemAt n start w₀
+  problem = problemAt s w₀
 
   valid : Valid problem
   valid = u .holds .valid
 
-  answer : Answered n m start (limitIn round) (round .budget) (a - t) w w′ r
+  answer : Answered s (limitIn round) (round .budget) (a - t) w w′ r
   answer = rw (u .limit-is) at (u .answered)
 
-  same : problemAt n start w ≡ problem
-  same = problem-same n w w₀ (u .between .same-map) start
+  same : problemAt s w ≡ problem
+  same = problem-same s w w₀ (u .between .same-map)
 
-  kept-map : drop (endsAt n) w′ ≡ drop (endsAt n) w₀
+  kept-map : drop (endsAt (s .places)) w′ ≡ drop (endsAt (s .places)) w₀
   kept-map = answer .same-map ∙ u .between .same-map
+
+  kept-length : length w′ ≡ length w₀
+  kept-length = u .same-length ∙ u .between .same-length
 
   under-way : Underway problem a (roundOf round) (outcomeOf (round .outcome)) t q
   under-way = u .between .underway
@@ -139,11 +126,11 @@ module _ {n m arcs start a : ℕ} {w₀ w : List ℕ} {round : Round} {t q limit
   abbrev asked : model.Query
   asked = query problem (limitIn round) (round .budget)
 
-  -- what was left has been counted, so that the total is the allowance
+  -- what was left has been counted, so that the expansions are the allowance
   total-spent : r .spent ≡ true → t + r .count ≡ a
   total-spent e = omega (arith, answer .cut e, under-way .lasts)
 
-  -- the total stays within the allowance
+  -- the expansions stay within the allowance
   pub total-within : t + r .count ≤ a
   total-within = within (r .spent) refl
     where
@@ -151,7 +138,7 @@ module _ {n m arcs start a : ℕ} {w₀ w : List ℕ} {round : Round} {t q limit
       within true e = omega (arith, total-spent e)
       within false e = omega (arith, answer .lasts e, answer .count e, under-way .lasts)
 
-  pub turn-spent : r .spent ≡ true → Searched n start a w₀ w′ (Spent (round .low) (t + r .count) (q + 1))
+  pub turn-spent : r .spent ≡ true → Searched s a w₀ w′ (Spent (record { floor = round .low; expansions = t + r .count; queries = q + 1 }))
   turn-spent e =
       record {
         same-map = kept-map;
@@ -168,56 +155,62 @@ module _ {n m arcs start a : ℕ} {w₀ w : List ℕ} {round : Round} {t q limit
     asked-outcome : outcomeOf (r .outcome) ≡ asked .outcome
     asked-outcome = rw same at (answer .outcome e)
 
-    at-goal : r .outcome ≡ Found → FoundAt problem (limitIn round) n (r .place) w′
+    at-goal : r .outcome ≡ Found → FoundAt problem (limitIn round) (r .place) w′
     at-goal f = rw same at (answer .found e f)
 
+    -- a round that follows is one of the trace's, so that its budget is at most the growth times the number of places
+    pub turn-fits : BudgetFitsAfter round (s .growth) limit (r .outcome)
+    unfolding next ask problemAt
+    turn-fits =
+        record {
+          fits = λ x f.
+              let goes-on = underway.goes-on problem valid a under-way x (rw (u .limit-is, asked-outcome) at f) lasts in
+              let most : s .growth * s .places ≤ 65535 * maxPlaces =
+              mul-le-mul {n₂ = 65535} {m₂ = maxPlaces} (omega (arith, u .holds .growth-below)) (few-places s w₀ (u .holds)) in
+              omega (arith, underway.asked-budget-at-most problem valid a goes-on);
+        }
+
     -- the record that the query leaves has its outcome
-    module _ (left : Round) (h : RoundAfter round limit (r .outcome) left) where
+    module _ (left : Round) (h : RoundAfter round (s .growth) limit (r .outcome) left) where
       outcome : (o : Outcome) → left .outcome ≡ o → asked .outcome ≡ outcomeOf o
       outcome o f = sym asked-outcome ∙ ap outcomeOf (sym (h .carries) ∙ f)
 
-      pub turn-no-route : left .outcome ≡ None → Searched n start a w₀ w′ (NoRoute limit (t + r .count) (q + 1))
+      pub turn-no-route : left .outcome ≡ None
+          → Searched s a w₀ w′ (NoRoute (record { limit = limit; expansions = t + r .count; queries = q + 1 }))
       unfolding problemAt
       turn-no-route f =
           record { same-map = kept-map; means = rw (u .limit-is, count) (underway.ends-no-route problem valid a under-way (outcome None f) lasts) }
 
       -- a round follows
-      onward : (s : rounds.Round) → next problem (ask problem (roundOf round)) ≡ some s → BetweenQueries n m start a w₀ w′ left (t + r .count) (q + 1)
+      onward : (x : rounds.Round) → next problem (ask problem (roundOf round)) ≡ some x → BetweenQueries s a w₀ w′ left (t + r .count) (q + 1)
       unfolding next ask problemAt
-      onward s f =
-          let is : roundOf left ≡ s = h .next s (rw (u .limit-is, asked-outcome) f) in
+      onward x f =
+          let is : roundOf left ≡ x = h .next x (rw (u .limit-is, asked-outcome) f) in
           record {
             same-map = kept-map;
-            same-length = u .same-length ∙ u .between .same-length;
+            same-length = kept-length;
             ready = answer .ready;
-            underway = rw (count, h .carries, asked-outcome, is) (underway.goes-on problem valid a under-way s f lasts);
+            underway = rw (count, h .carries, asked-outcome, is) (underway.goes-on problem valid a under-way x f lasts);
           }
 
-      pub turn-ended : {x : ℕ} → left .outcome ≡ Ended x → BetweenQueries n m start a w₀ w′ left (t + r .count) (q + 1)
+      pub turn-ended : {x : ℕ} → left .outcome ≡ Ended x → BetweenQueries s a w₀ w′ left (t + r .count) (q + 1)
       turn-ended {x} f = onward _ (underway.after-ended problem (roundOf round) x (outcome (Ended x) f))
 
-      pub turn-over : left .outcome ≡ Over → BetweenQueries n m start a w₀ w′ left (t + r .count) (q + 1)
+      pub turn-over : left .outcome ≡ Over → BetweenQueries s a w₀ w′ left (t + r .count) (q + 1)
       turn-over f = onward _ (underway.after-over problem (roundOf round) (outcome Over f))
 
-      pub turn-goal : left .outcome ≡ Found → GoalLabelled n (r .place) w′
-      turn-goal f =
-          let goal = at-goal (sym (h .carries) ∙ f) in
-          let holds = holds-same n w′ w₀ kept-map arcs start (u .same-length ∙ u .between .same-length) (u .holds) in
-          record {
-            labelled = record { arcs = arcs; start = start; holds = holds; label-below = goal .label-below };
-            cost = goal .cost;
-            label = goal .label;
-          }
+      module _ (f : left .outcome ≡ Found) where
+        goal : FoundAt problem (limitIn round) (r .place) w′
+        goal = at-goal (sym (h .carries) ∙ f)
 
-      -- the parents are set, and the area is w″
-      pub turn-routed : (w″ : List ℕ) (v : Verdict) → left .outcome ≡ Found → Parented n (r .place) limit (t + r .count) (q + 1) w′ w″ v
-          → Searched n start a w₀ w″ v
-      turn-routed w″ v f parented =
-          record { same-map = parented .parents .same-map ∙ kept-map; means = rw (parented .verdict) (route, ends, follows) }
-        where
-          goal : FoundAt problem (limitIn round) n (r .place) w′
-          goal = at-goal (sym (h .carries) ∙ f)
+        pub turn-goal : GoalLabelled s (r .place) w′
+        unfolding problemAt
+        turn-goal =
+            let holds = holds-same s w′ w₀ kept-map kept-length (u .holds) in
+            record { labelled = record { holds = holds; label-below = goal .label-below }; cost = goal .cost; label = goal .label }
 
+        -- the parents are set, and the area is w″
+        module _ (w″ : List ℕ) (v : Verdict) (parented : Parented s (r .place) limit (t + r .count) (q + 1) w′ w″ v) where
           g : Key
           g = record { cost = goal .cost; place = r .place }
 
@@ -225,14 +218,26 @@ module _ {n m arcs start a : ℕ} {w₀ w : List ℕ} {round : Round} {t q limit
           route = routeTo problem (table problem (limitIn round)) g
 
           same-cost : goal .cost ≡ parented .cost
+          unfolding problemAt
           same-cost = let found = goal .label in let label = parented .label in cc
 
-          ends : searched problem (search problem a) (search problem a .spent) ≡ routed (parented .cost) route limit (t + r .count) (q + 1)
+          reached : Reached
+          reached = record { cost = parented .cost; goal = r .place; limit = limit; expansions = t + r .count; queries = q + 1 }
+
+          ends : budgeted problem a ≡ routed (reachedBy route reached)
+          unfolding g route reached
           ends =
               underway.ends-routed problem valid a under-way (outcome Found f) lasts g (goal .is-first)
-              ∙ ap (λ (c : ℕ). routed c route (limitIn round) (t + asked .cost) (q + 1)) same-cost
-              ∙ ap₂ (λ (l x : ℕ). routed (parented .cost) route l (t + x) (q + 1)) (sym (u .limit-is)) (sym count)
+              ∙ (λ i. routed (record {
+                cost = same-cost i;
+                places = route;
+                limit = sym (u .limit-is) i;
+                expansions = t + sym count i;
+                queries = q + 1;
+              }))
 
-          follows : Follows n w″ (r .place) route
-          follows =
-              follows-route problem valid (limitIn round) n start (r .place) w′ w″ (problem-same n w′ w₀ kept-map start) goal (parented .parents)
+          pub turn-routed : Searched s a w₀ w″ v
+          unfolding g route reached
+          turn-routed =
+              let follows = follows-route s (limitIn round) (r .place) w₀ w′ w″ valid kept-map goal (parented .parents) in
+              record { same-map = parented .parents .same-map ∙ kept-map; means = rw (parented .verdict) (route, ends, follows) }

@@ -13,8 +13,8 @@ use Rattle.model.specs.Costs.{table}
 use Rattle.model.specs.Query.{Key, firstGoal, Outcome, ended, over, found, nothing, query}
 use Rattle.model.specs.Rounds.{Round, Step, firstRound, limitOf, settle, after, ask, next, trace, total, search}
 use Rattle.model.specs.Routes.{routeTo}
-use Rattle.model.specs.Answer.{spent, noRoute, routed, finished, searched}
-use Rattle.model.specs.Terms.{Kept, CutAt, Run, last, more}
+use Rattle.model.specs.Endings.{spent, noRoute, routed, finished, endingIf, budgeted}
+use Rattle.model.specs.Terms.{RoundKept, CutAt, Run, last, more}
 use Rattle.model.proofs.Lists.{none-some}
 use Rattle.model.proofs.Queries.{nothing-next}
 use Rattle.model.proofs.Rounds.{low-limit}
@@ -72,7 +72,7 @@ module _ (p : Problem) (ok : Valid p) (a : ℕ) where
     in-trace : List·Memᴰ (ask p r) (trace p)
     in-trace = rw (u .split, run-first (u .run) .1) (Memᴰ·append-right (u .done) (List·Memᴰ·head refl))
 
-    kept : Kept p r
+    kept : RoundKept p r
     unfolding ask
     kept = laws.rounds-kept p ok (ask p r) in-trace
 
@@ -123,17 +123,19 @@ module _ (p : Problem) (ok : Valid p) (a : ℕ) where
           counted = omega (arith, u .counted);
         }
 
-    pub ends-spent : a - t < costOf p r → searched p (search p a) (search p a .spent) ≡ spent (r .low) a (q + 1)
-    unfolding searched ask total
+    pub ends-spent : a - t < costOf p r → budgeted p a ≡ spent (record { floor = r .low; expansions = a; queries = q + 1 })
+    unfolding budgeted endingIf ask total
     ends-spent h =
         let here = is-cut h in
-        let exceeds : a < total (trace p) = rw (here .split) (omega (arith, here .exceeds, total-append (here .earlier) (ask p r ∷ here .later))) in
-        let cut = laws.spent-cut p ok a exceeds in
-        let to = laws.cut-forward p ok a a (search p a .queries) (q + 1) (search p a .last) (ask p r) (le-refl a) (cut .1) here in
-        let back = laws.cut-forward p ok a a (q + 1) (search p a .queries) (ask p r) (search p a .last) (le-refl a) here (cut .1) in
+        let whole = total-append (here .earlier) (ask p r ∷ here .later) in
+        let exceeds : a < total (trace p) = rw (here .split) (omega (arith, here .exceeds)) in
+        let cut = laws.spent-cut p a exceeds in
+        let forward = laws.cut-forward (trace p) (laws.low-never-falls p ok) a a in
+        let to = forward (search p a .queries) (q + 1) (search p a .last) (ask p r) (le-refl a) (cut .1) here in
+        let back = forward (q + 1) (search p a .queries) (ask p r) (search p a .last) (le-refl a) here (cut .1) in
         let low : search p a .last .round .low ≡ r .low = omega arith in
         let queries : search p a .queries ≡ q + 1 = omega arith in
-        rw (laws.spent-exactly p ok a .1 exceeds, low, cut .0, queries)
+        rw (laws.spent-exactly p a .1 exceeds, low, cut .0, queries)
 
     -- the allowance lasts for the query, and it is the last
     closed : next p (ask p r) ≡ none → costOf p r ≤ a - t
@@ -156,7 +158,7 @@ module _ (p : Problem) (ok : Valid p) (a : ℕ) where
 
         uncut : (search p a .expansions ≡ total (trace p)) × (search p a .queries ≡ length (trace p))
             × ((x : List Step) × (trace p ≡ x ++ (search p a .last ∷ [])))
-        uncut = laws.not-spent p ok a lasts
+        uncut = laws.not-spent p a (laws.trace-finished p ok) lasts
 
         is-last : search p a .last ≡ ask p r
         is-last =
@@ -164,17 +166,23 @@ module _ (p : Problem) (ok : Valid p) (a : ℕ) where
             snoc-injective x (u .done) (search p a .last) (ask p r) (sym ends ∙ whole) .1
 
     pub ends-no-route : outcomeIn p r ≡ nothing → costOf p r ≤ a - t
-        → searched p (search p a) (search p a .spent) ≡ noRoute (p .start) (limitOf (r .low) (r .high)) (t + costOf p r) (q + 1)
-    unfolding searched finished ask next after
+        → budgeted p a ≡ noRoute (record { start = p .start; limit = limitOf (r .low) (r .high); expansions = t + costOf p r; queries = q + 1 })
+    unfolding budgeted endingIf finished ask next after
     ends-no-route e h =
         let no-goal = nothing-next p (limitOf (r .low) (r .high)) (r .budget) e .0 in
         rw (closed (rw e refl) h, no-goal)
 
     pub ends-routed : outcomeIn p r ≡ found → costOf p r ≤ a - t
         → (g : Key) → firstGoal p (table p (limitOf (r .low) (r .high))) ≡ some g
-        → searched p (search p a) (search p a .spent)
-        ≡ routed (g .cost) (routeTo p (table p (limitOf (r .low) (r .high))) g) (limitOf (r .low) (r .high)) (t + costOf p r) (q + 1)
-    unfolding searched finished ask next after
+        → budgeted p a
+        ≡ routed (record {
+          cost = g .cost;
+          places = routeTo p (table p (limitOf (r .low) (r .high))) g;
+          limit = limitOf (r .low) (r .high);
+          expansions = t + costOf p r;
+          queries = q + 1;
+        })
+    unfolding budgeted endingIf finished ask next after
     ends-routed e h g is-first = rw (closed (rw e refl) h, is-first)
 
 -- what follows a query that neither found a goal nor the lack of one

@@ -4,15 +4,19 @@ use mathlib.Core.List.{List}
 use mathlib.Core.Option.{Option, none, some}
 use Prim.Native.Nat.{ℕ}
 use lib.ListN.{drop}
-use Rattle.map.specs.Layout.{Holds, problemAt, endsAt}
+use Rattle.map.specs.declared.Site.{Site}
+use Rattle.layout.specs.Regions.{endsAt}
+use Rattle.layout.specs.Map.{problemAt}
+use Rattle.layout.specs.Labels.{Follows}
 use Rattle.model.specs.Rounds as model
-use Rattle.model.specs.Rounds.{search}
-use Rattle.model.specs.Answer as answer
-use Rattle.model.specs.Answer.{Ending, searched}
-use Rattle.scans.specs.Area.{Follows}
+use Rattle.model.specs.Endings as endings
+use Rattle.model.specs.Endings.{Ending, budgeted}
 use Rattle.search.specs.declared.High.{High}
 use Rattle.search.specs.declared.High.the-variants.{Unset, At}
 use Rattle.search.specs.declared.Round.{Round}
+use Rattle.search.specs.declared.CutShort.{CutShort}
+use Rattle.search.specs.declared.NoGoal.{NoGoal}
+use Rattle.search.specs.declared.Reached.{Reached}
 use Rattle.search.specs.declared.Verdict.{Verdict}
 use Rattle.search.specs.declared.Verdict.the-variants.{Spent, NoRoute, Routed}
 
@@ -24,19 +28,23 @@ highOf (At h) = some h
 abbrev pub roundOf : Round → model.Round
 roundOf r = record { low = r .low; high = highOf (r .high); budget = r .budget }
 
--- Document 01's ending for each verdict. Of a route: the goal's key is the limit's first goal, and the parents in the area lead along the
--- route that the definitions put on the sheet.
-abbrev pub Means : (n start : ℕ) (w : List ℕ) → Verdict → Ending → Type 0
-Means n start w (Spent floor expansions queries) e = e ≡ answer.spent floor expansions queries
-Means n start w (NoRoute limit expansions queries) e = e ≡ answer.noRoute start limit expansions queries
-Means n start w (Routed cost goal limit expansions queries) e =
-    (r : List ℕ) × (e ≡ answer.routed cost r limit expansions queries) × Follows n w goal r
+-- the definitions' endings with the code's numbers
+abbrev pub cutOf : CutShort → endings.CutShort
+cutOf v = record { floor = v .floor; expansions = v .expansions; queries = v .queries }
 
--- the area holds a map
-abbrev pub Searchable : (n arcs start : ℕ) → List ℕ → Type 0
-Searchable n arcs start w = Holds n arcs start w
+abbrev pub noGoalOf : (start : ℕ) → NoGoal → endings.NoGoal
+noGoalOf start v = record { start = start; limit = v .limit; expansions = v .expansions; queries = v .queries }
 
-pub record Searched (n start allowance : ℕ) (w₀ w : List ℕ) (r : Verdict) : Type 0 where
-  pub same-map : drop (endsAt n) w ≡ drop (endsAt n) w₀
-  pub means : Means n start w r
-      (searched (problemAt n start w₀) (search (problemAt n start w₀) allowance) (search (problemAt n start w₀) allowance .spent))
+abbrev pub reachedBy : List ℕ → Reached → endings.Reached
+reachedBy places v =
+    record { cost = v .cost; places = places; limit = v .limit; expansions = v .expansions; queries = v .queries }
+
+-- Document 01's ending for each verdict. Of a route: the parents in the area lead along the places that the definitions put on the sheet.
+abbrev pub Means : Site → List ℕ → Verdict → Ending → Type 0
+Means s w (Spent v) e = e ≡ endings.spent (cutOf v)
+Means s w (NoRoute v) e = e ≡ endings.noRoute (noGoalOf (s .start) v)
+Means s w (Routed v) e = (r : List ℕ) × (e ≡ endings.routed (reachedBy r v)) × Follows (s .places) w (v .goal) r
+
+pub record Searched (s : Site) (allowance : ℕ) (w₀ w : List ℕ) (r : Verdict) : Type 0 where
+  pub same-map : drop (endsAt (s .places)) w ≡ drop (endsAt (s .places)) w₀
+  pub means : Means s w r (budgeted (problemAt s w₀) allowance)

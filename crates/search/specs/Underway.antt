@@ -2,48 +2,59 @@
 use mathlib.Core.Path.{_≡_}
 use mathlib.Core.List.{List, [], _∷_, _++_}
 use mathlib.Core.Option.{none, some}
-use Prim.Native.Nat.{ℕ, _≤_}
+use Prim.Native.Nat.{ℕ, _^_, _≤_, _<_}
 use lib.ListN.{length, drop}
-use Rattle.map.specs.Layout.{problemAt, endsAt}
+use Rattle.map.specs.declared.Site.{Site}
+use Rattle.layout.specs.Regions.{endsAt}
+use Rattle.layout.specs.Map.{problemAt}
+use Rattle.layout.specs.Labels.{labels, Labelled}
 use Rattle.model.specs.Problem.{Problem}
 use Rattle.model.specs.Costs.{costAt}
 use Rattle.model.specs.Query as query
 use Rattle.model.specs.Rounds as model
 use Rattle.model.specs.Rounds.{after, Step, trace}
 use Rattle.model.specs.Terms.{Run}
-use Rattle.scans.specs.Area.{labels, Labelled, HasParents}
+use Rattle.scans.specs.Area.{HasParents}
 use Rattle.query.specs.Query.{Ready, outcomeOf}
+use Rattle.query.specs.declared.Outcome.{Outcome}
 use Rattle.search.specs.Rounds.{highOf, roundOf}
 use Rattle.search.specs.declared.High.{High}
-use Rattle.query.specs.declared.Outcome.{Outcome}
 use Rattle.search.specs.declared.Round.{Round}
 use Rattle.search.specs.declared.Verdict.{Verdict}
 use Rattle.search.specs.declared.Verdict.the-variants.{Routed}
 
--- the next round, in the terms of document 01, and the outcome that its record carries
-pub record Settled (low : ℕ) (high : High) (budget : ℕ) (outcome : Outcome) (r : Round) : Type 0 where
-  pub round : roundOf r ≡ model.settle 2 low (highOf high) budget
+-- what `settle` asks: the next round's budget, grown where the round closes, fits a word
+pub record BudgetFits (growth low : ℕ) (high : High) (budget : ℕ) : Type 0 where
+  pub fits : model.settle growth low (highOf high) budget .budget < 2 ^ 32
+
+-- what it gives: the next round, in the terms of document 01, and the outcome that its record carries
+pub record NextRound (growth low : ℕ) (high : High) (budget : ℕ) (outcome : Outcome) (r : Round) : Type 0 where
+  pub round : roundOf r ≡ model.settle growth low (highOf high) budget
   pub carries : r .outcome ≡ outcome
+
+-- what `after` asks: where a round follows the query, its budget fits a word
+pub record BudgetFitsAfter (round : Round) (growth limit : ℕ) (outcome : Outcome) : Type 0 where
+  pub fits : (s : model.Round) → after growth (roundOf round) limit (outcomeOf outcome) ≡ some s → s .budget < 2 ^ 32
 
 -- the record that a query leaves: of the next round where the definition gives one, of the same round where it gives none; with the
 -- query's outcome
-pub record RoundAfter (round : Round) (limit : ℕ) (outcome : Outcome) (r : Round) : Type 0 where
-  pub next : (s : model.Round) → after 2 (roundOf round) limit (outcomeOf outcome) ≡ some s → roundOf r ≡ s
-  pub finished : after 2 (roundOf round) limit (outcomeOf outcome) ≡ none → roundOf r ≡ roundOf round
+pub record RoundAfter (round : Round) (growth limit : ℕ) (outcome : Outcome) (r : Round) : Type 0 where
+  pub next : (s : model.Round) → after growth (roundOf round) limit (outcomeOf outcome) ≡ some s → roundOf r ≡ s
+  pub finished : after growth (roundOf round) limit (outcomeOf outcome) ≡ none → roundOf r ≡ roundOf round
   pub carries : r .outcome ≡ outcome
 
 -- the goal has a label
-pub record GoalLabelled (n goal : ℕ) (w : List ℕ) : Type 0 where
-  pub labelled : Labelled n w
+pub record GoalLabelled (s : Site) (goal : ℕ) (w : List ℕ) : Type 0 where
+  pub labelled : Labelled s w
   pub cost : ℕ
-  pub label : costAt (labels n w) goal ≡ some cost
+  pub label : costAt (labels (s .places) w) goal ≡ some cost
 
 -- the goal's label is the verdict's cost, and the parents lead back from it
-pub record Parented (n goal limit total queries : ℕ) (w₀ w : List ℕ) (r : Verdict) : Type 0 where
-  pub parents : HasParents n w₀ w
+pub record Parented (s : Site) (goal limit expansions queries : ℕ) (w₀ w : List ℕ) (r : Verdict) : Type 0 where
+  pub parents : HasParents s w₀ w
   pub cost : ℕ
-  pub label : costAt (labels n w₀) goal ≡ some cost
-  pub verdict : r ≡ Routed cost goal limit total queries
+  pub label : costAt (labels (s .places) w₀) goal ≡ some cost
+  pub verdict : r ≡ Routed (record { cost = cost; goal = goal; limit = limit; expansions = expansions; queries = queries })
 
 -- The queries done, whose total the allowance lasts for and the last of which, if any, had outcome o; and those from round r on to the one
 -- that finishes the search.
@@ -59,8 +70,8 @@ pub record Underway (p : Problem) (allowance : ℕ) (r : model.Round) (o : query
 
 -- as a query begins: the map is as it was, the open list is ready, the round is one of the search's, and its record carries the outcome of
 -- the query before
-pub record BetweenQueries (n nodes start allowance : ℕ) (w₀ w : List ℕ) (round : Round) (total queries : ℕ) : Type 0 where
-  pub same-map : drop (endsAt n) w ≡ drop (endsAt n) w₀
+pub record BetweenQueries (s : Site) (allowance : ℕ) (w₀ w : List ℕ) (round : Round) (expansions queries : ℕ) : Type 0 where
+  pub same-map : drop (endsAt (s .places)) w ≡ drop (endsAt (s .places)) w₀
   pub same-length : length w ≡ length w₀
-  pub ready : Ready n nodes w
-  pub underway : Underway (problemAt n start w₀) allowance (roundOf round) (outcomeOf (round .outcome)) total queries
+  pub ready : Ready (s .places) w
+  pub underway : Underway (problemAt s w₀) allowance (roundOf round) (outcomeOf (round .outcome)) expansions queries

@@ -1,13 +1,14 @@
 // The budgeted search over a map in the work area: queries in rounds, with low, high and a budget, until a goal is found, none can be,
 // or the allowance is spent.
-use map::Map;
-use map::layout;
+use map::Site;
 use query::Outcome;
 ghost use mathlib.Core.Path.{_≡_};
 ghost use Prim.Native.Nat.{_^_, _<_};
 ghost use Rattle.model.specs.Rounds.{limitOf};
-ghost use Rattle.search.specs.Rounds.{Searchable, Searched, highOf};
-ghost use Rattle.search.specs.Underway.{Settled, RoundAfter, GoalLabelled, Parented};
+ghost use Rattle.layout.specs.Map.{Holds};
+ghost use Rattle.search.specs.Rounds.{Searched, highOf};
+ghost use Rattle.search.specs.declared.Verdict.the-variants.{Spent, NoRoute};
+ghost use Rattle.search.specs.Underway.{BudgetFits, NextRound, BudgetFitsAfter, RoundAfter, GoalLabelled, Parented};
 
 pub enum High {
     Unset,
@@ -22,15 +23,32 @@ pub struct Round {
     pub outcome: Outcome,
 }
 
-// How the search ends: floor, expansions and queries; limit, expansions and queries; or cost, goal, limit, expansions and queries.
+// How a search ends: cut by the allowance, with no goal, or at one.
 pub enum Verdict {
-    Spent(u32, u32, u32),
-    NoRoute(u32, u32, u32),
-    Routed(u32, u32, u32, u32, u32),
+    Spent(CutShort),
+    NoRoute(NoGoal),
+    Routed(Reached),
 }
 
-// What the budget is multiplied by when a round closes.
-const GROWTH: u32 = 2;
+pub struct CutShort {
+    pub floor: u32,
+    pub expansions: u32,
+    pub queries: u32,
+}
+
+pub struct NoGoal {
+    pub limit: u32,
+    pub expansions: u32,
+    pub queries: u32,
+}
+
+pub struct Reached {
+    pub cost: u32,
+    pub goal: u32,
+    pub limit: u32,
+    pub expansions: u32,
+    pub queries: u32,
+}
 
 // The limit of the next query.
 fn limit_of(low: u32, high: High) -> u32
@@ -44,9 +62,9 @@ fn limit_of(low: u32, high: High) -> u32
 }
 
 // The next round's record: where low equals high the round closes, the budget grows and high is unset.
-fn settle(low: u32, high: High, budget: u32, outcome: Outcome) -> Round
-    requires { ⌜ budget < 2 ^ 30 ⌝ }
-    ensures { λ r. ⌜ Settled low high budget outcome r ⌝ }
+fn settle(low: u32, high: High, budget: u32, growth: u32, outcome: Outcome) -> Round
+    requires { ⌜ BudgetFits growth low high budget ⌝ }
+    ensures { λ r. ⌜ NextRound growth low high budget outcome r ⌝ }
 {
     match high {
         High::Unset => Round {
@@ -60,7 +78,7 @@ fn settle(low: u32, high: High, budget: u32, outcome: Outcome) -> Round
                 return Round {
                     low,
                     high: High::Unset,
-                    budget: GROWTH * budget,
+                    budget: growth * budget,
                     outcome,
                 };
             }
@@ -75,9 +93,9 @@ fn settle(low: u32, high: High, budget: u32, outcome: Outcome) -> Round
 }
 
 // The record that a query leaves. Ended sets low to its number, over sets high to the limit; found and none finish the search.
-fn after(round: Round, limit: u32, outcome: Outcome) -> Round
-    requires { ⌜ round .budget < 2 ^ 30 ⌝ }
-    ensures { λ r. ⌜ RoundAfter round limit outcome r ⌝ }
+fn after(round: Round, growth: u32, limit: u32, outcome: Outcome) -> Round
+    requires { ⌜ BudgetFitsAfter round growth limit outcome ⌝ }
+    ensures { λ r. ⌜ RoundAfter round growth limit outcome r ⌝ }
 {
     let high = round.high;
     let same = Round {
@@ -87,55 +105,88 @@ fn after(round: Round, limit: u32, outcome: Outcome) -> Round
         outcome,
     };
     match outcome {
-        Outcome::Ended(next) => settle(next, high, round.budget, outcome),
-        Outcome::Over => settle(round.low, High::At(limit), round.budget, outcome),
+        Outcome::Ended(next) => settle(next, high, round.budget, growth, outcome),
+        Outcome::Over => settle(round.low, High::At(limit), round.budget, growth, outcome),
         Outcome::Found => same,
         Outcome::None => same,
     }
 }
 
-// The goal's label is its cost; the parents lead back from it.
-fn found(work: &mut [u32], size: Map, goal: u32, limit: u32, total: u32, queries: u32) -> Verdict
-    requires { ⌜ GoalLabelled (size .places) goal (now work) ⌝ }
-    ensures { λ r. ⌜ Parented (size .places) goal limit total queries (now (work .entry)) (now (work .exit)) r ⌝ }
+fn cut_short(floor: u32, expansions: u32, queries: u32) -> Verdict
+    ensures { λ r. ⌜ r ≡ Spent (record { floor = floor; expansions = expansions; queries = queries }) ⌝ }
 {
-    scans::parents(work, size.places);
-    Verdict::Routed(work[goal as usize], goal, limit, total, queries)
+    Verdict::Spent(CutShort {
+        floor,
+        expansions,
+        queries,
+    })
 }
 
-pub fn search(work: &mut [u32], size: Map, start: u32, allowance: u32) -> Verdict
-    requires { ⌜ Searchable (size .places) (size .arcs) start (now work) ⌝ }
-    ensures { λ r. ⌜ Searched (size .places) start allowance (now (work .entry)) (now (work .exit)) r ⌝ }
+fn no_goal(limit: u32, expansions: u32, queries: u32) -> Verdict
+    ensures { λ r. ⌜ r ≡ NoRoute (record { limit = limit; expansions = expansions; queries = queries }) ⌝ }
 {
-    let n = size.places;
-    let m = query::prepare(work, size);
+    Verdict::NoRoute(NoGoal {
+        limit,
+        expansions,
+        queries,
+    })
+}
+
+// The goal's label is its cost; the parents lead back from it.
+fn found(
+    work: &mut [u32],
+    site: Site,
+    goal: u32,
+    limit: u32,
+    expansions: u32,
+    queries: u32,
+) -> Verdict
+    requires { ⌜ GoalLabelled site goal (now work) ⌝ }
+    ensures { λ r. ⌜ Parented site goal limit expansions queries (now (work .entry)) (now (work .exit)) r ⌝ }
+{
+    scans::parents(work, site);
+    let cost = layout::label(work, goal as usize);
+    Verdict::Routed(Reached {
+        cost,
+        goal,
+        limit,
+        expansions,
+        queries,
+    })
+}
+
+pub fn search(work: &mut [u32], site: Site, allowance: u32) -> Verdict
+    requires { ⌜ Holds site (now work) ⌝ }
+    ensures { λ r. ⌜ Searched site allowance (now (work .entry)) (now (work .exit)) r ⌝ }
+{
+    query::prepare(work, site);
     // No query yet; its outcome is read by nobody.
     let mut round = Round {
-        low: work[layout::estimates_at(n) + start as usize],
+        low: layout::estimate(work, site.places, site.start as usize),
         high: High::Unset,
         budget: 1,
         outcome: Outcome::Over,
     };
-    let mut total: u32 = 0;
+    let mut expansions: u32 = 0;
     let mut queries: u32 = 0;
     loop {
         let high = round.high;
         let limit = limit_of(round.low, high);
         queries += 1;
-        let asked = query::query(work, size, m, start, limit, round.budget, allowance - total);
-        total += asked.count;
+        let asked = query::query(work, site, limit, round.budget, allowance - expansions);
+        expansions += asked.count;
         if asked.spent {
-            return Verdict::Spent(round.low, total, queries);
+            return cut_short(round.low, expansions, queries);
         }
         let outcome = asked.outcome;
-        round = after(round, limit, outcome);
+        round = after(round, site.growth, limit, outcome);
         let outcome = round.outcome;
         match outcome {
             Outcome::Found => {
-                return found(work, size, asked.place, limit, total, queries);
+                return found(work, site, asked.place, limit, expansions, queries);
             }
             Outcome::None => {
-                return Verdict::NoRoute(limit, total, queries);
+                return no_goal(limit, expansions, queries);
             }
             Outcome::Ended(_) => {}
             Outcome::Over => {}

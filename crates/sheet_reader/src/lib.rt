@@ -1,5 +1,8 @@
 // Reads a sheet: any bytes in, what they say out.
 use map::Map;
+use map::number::NO_JOB;
+use map::number::NO_SHEET;
+use map::sheet;
 ghost use mathlib.Core.Path.{_≡_};
 ghost use Prim.Native.Nat.{_+_, _*_, _≤_};
 ghost use lib.ListN.{length};
@@ -7,18 +10,9 @@ ghost use Rattle.model.specs.Limits.{maxPlaces};
 ghost use Rattle.model.specs.Sheets.{routeKind, noRouteKind, refusedRead, readRecord, readSheet, hostAnswer};
 ghost use Rattle.sheet_reader.specs.Read.{readingOf, Listed};
 
-const ROUTE_KIND: u16 = 17;
-
-const NO_ROUTE_KIND: u16 = 18;
-
-// The numbers that a read gives: the first two of accepted sheets.
-pub const FOUND: u32 = 0;
-
-pub const NO_ROUTE: u32 = 17;
-
-const NO_SHEET: u32 = 18;
-
-const NO_JOB: u32 = 19;
+// The numbers that a read of an accepted sheet gives.
+pub use map::number::FOUND;
+pub use map::number::NO_ROUTE;
 
 // How many places a reading has room for.
 pub const PLACES: usize = Map::PLACES;
@@ -151,10 +145,10 @@ pub fn read(sheet: &[u8]) -> Reading
         return refused(NO_SHEET);
     }
     let body = &sheet[4..];
-    if kind == ROUTE_KIND {
+    if kind == sheet::ROUTE {
         return read_route(body);
     }
-    if kind == NO_ROUTE_KIND {
+    if kind == sheet::NO_ROUTE {
         return read_no_route(body);
     }
     refused(NO_SHEET)

@@ -6,12 +6,9 @@ use mathlib.Core.Option.{Option}
 use Prim.Native.Nat.{ℕ, _+_, _≤_, _<_}
 use native.Mathlib.Decide.{ℕ-discrete}
 use native.Mathlib.Omega.{arith}
-use lib.ListN.{length, getD, length-append}
-use Rattle.open_list.specs.Entry.{noKey}
-use Rattle.model.proofs.Indices.{getD-default}
-use Rattle.map.specs.Layout.{parentsAt}
-use Rattle.scans.specs.Area.{Follows, first, after, wordOr, parentAt}
-use Rattle.scans.proofs.Words.{wordOr-none, wordOr-some}
+use lib.ListN.{length, length-append}
+use Rattle.layout.specs.Labels.{noWord, Follows, first, after, wordOr, parentAt}
+use Rattle.layout.proofs.Labels.{wordOr-none, wordOr-some}
 use Rattle.sheet_writer.specs.Places.{Earlier}
 
 -- the places up to v are those before it, and v
@@ -46,24 +43,19 @@ module _ {n : ℕ} {w : List ℕ} where
       let up-to-u : Follows n w u (b .earlier) = subst (λ (o : Option ℕ). Earlier n w o (b .earlier)) e (b .leads) in
       ap (λ (x : List ℕ). x ++ (v ∷ [])) (one-list f up-to-u) ∙ sym (b .joined)
 
--- the word of v's parent is what stands for v's parent
-pub parent-word : (n v : ℕ) (w : List ℕ) (i : ℕ) → i ≡ parentsAt n + v → i < length w → wordOr (getD w i 0) ≡ parentAt n w v
-unfolding parentAt
-parent-word n v w i q h = ap wordOr (getD-default w i 0 noKey h) ∙ ap (λ (k : ℕ). wordOr (getD w k noKey)) q
-
 -- a word u leads to the places s: to none where it is the word for none, else along the parents of u
 module _ (n u : ℕ) (w s : List ℕ) where
-  pub none-leads : u ≡ noKey → Earlier n w (wordOr u) s → s ≡ []
+  pub none-leads : u ≡ noWord → Earlier n w (wordOr u) s → s ≡ []
   unfolding Earlier
   none-leads q l = rw (wordOr-none u q) at l
 
-  pub place-leads : (u ≡ noKey → ⊥) → Earlier n w (wordOr u) s → Follows n w u s
+  pub place-leads : (u ≡ noWord → ⊥) → Earlier n w (wordOr u) s → Follows n w u s
   unfolding Earlier
   place-leads f l = rw (wordOr-some u f) at l
 
   pub some-leads : 1 ≤ length s → Earlier n w (wordOr u) s → Follows n w u s
-  some-leads h l = go (ℕ-discrete u noKey)
+  some-leads h l = go (ℕ-discrete u noWord)
     where
-      go : Dec (u ≡ noKey) → Follows n w u s
+      go : Dec (u ≡ noWord) → Follows n w u s
       go (yes q) = absurd (omega (arith, ap (λ (x : List ℕ). length x) (none-leads q l)))
       go (no f) = place-leads f l

@@ -10,7 +10,7 @@ use lib.Seq.{sets}
 use Rattle.area.proofs.Sets.{sets-join}
 use Rattle.model.specs.Bytes.{put16, put16s}
 use Rattle.model.proofs.Bytes.{put16s-length}
-use Rattle.scans.specs.Area.{Follows, wordOr, parentAt}
+use Rattle.layout.specs.Labels.{Follows, wordOr, parentAt}
 use Rattle.sheet_writer.specs.Places.{Earlier, Leads, FitsPlaces, PlacesWritten}
 use Rattle.sheet_writer.proofs.Follows.{UpTo, up-to, up-to-length, one-list, some-leads}
 

@@ -14,7 +14,7 @@ use Rattle.model.specs.Sheets.{routeKind, noRouteKind, routeSheet, noRouteSheet
 use Rattle.model.specs.Answer.{overFront}
 use Rattle.model.proofs.Bytes.{put16s-length}
 use Rattle.sheet_writer.specs.Header.{header, FitsHeader, HeaderWritten}
-use Rattle.sheet_writer.specs.Places.{Counted, FitsPlaces}
+use Rattle.sheet_writer.specs.Places.{ArcsCounted, FitsPlaces}
 use Rattle.sheet_writer.specs.Write.{NoRouteWritten, FitsRoute, RouteWritten}
 use Rattle.sheet_writer.proofs.Follows.{one-list}
 
@@ -78,7 +78,7 @@ route-written {cost = cost} {count = count} {area₀ = area₀} {area = area} h 
     }
 
 module _ {n goal : ℕ} {w area₀ : List ℕ} (h : FitsRoute n goal w area₀) where
-  module _ {arcs : ℕ} (c : Counted n goal w arcs) where
+  module _ {arcs : ℕ} (c : ArcsCounted n goal w arcs) where
     pub few-arcs : arcs < maxPlaces
     few-arcs = omega (arith, c .count (h .leads .places) (h .leads .follows), h .leads .few, h .leads .few-places)
 

@@ -5,7 +5,7 @@ use Prim.Native.Nat.{ℕ, _+_, _*_, _≤_}
 use lib.ListN.{length}
 use Rattle.model.specs.Sheets.{routeSheet, noRouteSheet}
 use Rattle.model.specs.Answer.{overFront}
-use Rattle.scans.specs.Area.{Follows}
+use Rattle.layout.specs.Labels.{Follows}
 use Rattle.sheet_writer.specs.Places.{Leads}
 
 pub record FitsNoRoute (area : List ℕ) : Type 0 where

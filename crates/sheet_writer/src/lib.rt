@@ -1,16 +1,17 @@
 // Writes the two sheets.
-use map::layout;
+use map::sheet;
 ghost use Rattle.sheet_writer.specs.Write.{FitsNoRoute, NoRouteWritten, FitsRoute, RouteWritten};
 ghost use mathlib.Core.Path.{_≡_};
-ghost use Rattle.scans.specs.Area.{wordOr, parentAt};
+ghost use Rattle.layout.specs.Regions.{HasPlace};
+ghost use Rattle.layout.specs.Labels.{wordOr, parentAt};
 ghost use Rattle.sheet_writer.specs.Header.{FitsHeader, HeaderWritten};
-ghost use Rattle.sheet_writer.specs.Places.{HasParent, Leads, Counted, FitsPlaces, PlacesWritten};
+ghost use Rattle.sheet_writer.specs.Places.{Leads, ArcsCounted, FitsPlaces, PlacesWritten};
 
-const ROUTE_KIND: u32 = 17;
+const ROUTE_KIND: u32 = sheet::ROUTE as u32;
 
-const NO_ROUTE_KIND: u32 = 18;
+const NO_ROUTE_KIND: u32 = sheet::NO_ROUTE as u32;
 
-const NONE: u32 = open_list::NONE;
+const NONE: u32 = layout::NONE;
 
 // Where the first place stands: after length, kind, cost and count.
 const FIRST: usize = 10;
@@ -28,16 +29,16 @@ pub fn no_route(sheet: &mut [u8], start: u32) -> u32
 
 // The parent of v, or NONE.
 fn parent(work: &[u32], n: usize, v: u32) -> u32
-    requires { ⌜ HasParent n v (now work) ⌝ }
+    requires { ⌜ HasPlace n v (now work) ⌝ }
     ensures { λ r. ⌜ wordOr r ≡ parentAt n (now (work .entry)) v ⌝ }
 {
-    work[layout::parents_at(n) + v as usize]
+    layout::parent(work, n, v as usize)
 }
 
 // How many arcs lead from the start to v.
 fn arcs_to(work: &[u32], n: usize, v: u32) -> usize
     requires { ⌜ Leads n v (now work) ⌝ }
-    ensures { λ r. ⌜ Counted n v (now (work .entry)) r ⌝ }
+    ensures { λ r. ⌜ ArcsCounted n v (now (work .entry)) r ⌝ }
 {
     let mut arcs = 0;
     let mut u = parent(work, n, v);

@@ -24,7 +24,7 @@ returns c =
     cleared _ _ (keyless _ _ _ _ tree least (omega (arith, c .before .key-of .ensures)) (λ i. known .slice-known .given i .fits))
 
 clear-requires : tie.Need-clear-requires
-clear-requires c κs = tree-of _ _ _ (c .before .before .before .before .before .before .pre .list) .shape
+clear-requires c κs = tree-of _ _ _ (c .before .before .before .before .before .before .pre .list) .shape .room
 
 same-length-2 : tie.Need-same-length-2
 same-length-2 c = search needs

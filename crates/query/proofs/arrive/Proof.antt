@@ -1,23 +1,18 @@
 -- One store among the labels, and the open list lent and come back. Assumes nothing.
-use native.Mathlib.Omega.{arith}
-use lib.ListN.{length-set}
 use Rattle.area.specs.Part.{part}
-use Rattle.query.proofs.Regions as laws
+use Rattle.query.proofs.Regions.{arrive-lowers, arrived}
 use borrow.Author.Needs.{needs}
 use Rattle.query.proofs.arrive.Statement.{statement}
 use Rattle.query.proofs.arrive.Tie as tie
 
-mul-work : tie.Need-mul-work
-mul-work c = search needs
+set-label-requires : tie.Need-set-label-requires
+set-label-requires c κs = search needs
 
-slice-write-work : tie.Need-slice-write-work
-slice-write-work c = search needs
+open-at-requires : tie.Need-open-at-requires
+open-at-requires c κs = search needs
 
-words-requires : tie.Need-words-requires
-words-requires c κs = c .before .pre .room .enough .nodes
-
-add-end : tie.Need-add-end
-add-end c = search needs
+parents-at-requires : tie.Need-parents-at-requires
+parents-at-requires c κs = search needs
 
 mul-lower : tie.Need-mul-lower
 mul-lower c = search needs
@@ -29,31 +24,37 @@ part-lower-start : tie.Need-part-lower-start
 part-lower-start c = search needs
 
 part-lower-end : tie.Need-part-lower-end
-part-lower-end c = simp length-set (omega arith)
+part-lower-end c = search needs
 
 lower-requires : tie.Need-lower-requires
 unfolding part
-lower-requires c κs = rw (c .before .words .ensures) (laws.arrive-lowers _ _ _ _ _ _ (c .before .before .before .pre))
+lower-requires c κs =
+    let at = c .before in
+    let label = at .before .before .before .before in
+    rw (label .set-label .ensures)
+    (arrive-lowers _ _ _ (at .before .open-at .ensures) (at .parents-at .ensures) _ _ _ _ (label .before .before .before .pre))
 
 same-length : tie.Need-same-length
-same-length c = simp length-set at (c .before .work .given .1)
+same-length c = search needs
 
 returns : tie.Need-returns
 unfolding part
 returns c =
-    let start = c .before .before .before .before .before .before in
-    let size = c .before .before .before .before .words .ensures in
+    let at = c .before .before .before .before in
+    let label = at .before .before .before .before in
+    let stored = label .set-label .ensures in
     let lower = c .before .before .lower in
-    rw size (laws.arrived _ _ _ _ _ _ (start .pre) _ _ (rw size at (lower .kept .0)) (rw size at (lower .ensures)))
+    rw stored
+    (arrived _ _ _ (at .before .open-at .ensures) (at .parents-at .ensures) _ _ _ _ (label .before .before .before .pre) _ _
+    (rw stored at (lower .kept .0)) (rw stored at (lower .ensures)))
 
 pub arrive-spec : {M : Type 1} → statement M
 arrive-spec =
     tie.close
     (tie.spec
-    mul-work
-    slice-write-work
-    words-requires
-    add-end
+    set-label-requires
+    open-at-requires
+    parents-at-requires
     mul-lower
     sub-lower
     part-lower-start

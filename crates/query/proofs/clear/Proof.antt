@@ -1,27 +1,19 @@
--- The labels come back filled, and the open list, which they leave as it was, comes back cleared; the map lies beyond both. Assumes nothing.
+-- The labels are cleared, which leaves the open list as it was, and the open list comes back cleared; the map lies beyond both.
+-- Assumes nothing.
 use Rattle.area.specs.Part.{part}
-use Rattle.query.proofs.Regions as laws
+use Rattle.query.proofs.Regions.{still-used, blank}
 use borrow.Author.Needs.{needs}
 use Rattle.query.proofs.clear.Statement.{statement}
 use Rattle.query.proofs.clear.Tie as tie
 
-sub-fill : tie.Need-sub-fill
-sub-fill c = search needs
+clear-labels-requires : tie.Need-clear-labels-requires
+clear-labels-requires c κs = search needs
 
-part-fill-start : tie.Need-part-fill-start
-part-fill-start c = search needs
+open-at-requires : tie.Need-open-at-requires
+open-at-requires c κs = search needs
 
-part-fill-end : tie.Need-part-fill-end
-part-fill-end c = search needs
-
-fill-requires : tie.Need-fill-requires
-fill-requires c κs = search needs
-
-words-requires : tie.Need-words-requires
-words-requires c κs = c .before .before .before .before .before .pre .room .enough .nodes
-
-add-end : tie.Need-add-end
-add-end c = search needs
+parents-at-requires : tie.Need-parents-at-requires
+parents-at-requires c κs = search needs
 
 mul-reset : tie.Need-mul-reset
 mul-reset c = search needs
@@ -38,9 +30,10 @@ part-reset-end c = search needs
 reset-requires : tie.Need-reset-requires
 unfolding part
 reset-requires c κs =
-    let start = c .before .before .before .before .before .before .before in
-    let fill = c .before .before .before .before .fill in
-    rw (c .before .words .ensures) (laws.still-used _ _ _ (start .pre) (fill .last .0) (fill .kept .0))
+    let at = c .before in
+    let labels = at .before .before .before .before in
+    still-used _ _ _ (at .before .open-at .ensures) (at .parents-at .ensures) _ _ (labels .before .before .before .pre)
+    (labels .clear-labels .ensures) (labels .clear-labels .kept .0)
 
 same-length : tie.Need-same-length
 same-length c = search needs
@@ -48,22 +41,19 @@ same-length c = search needs
 returns : tie.Need-returns
 unfolding part
 returns c =
-    let start = c .before .before .before .before .before .before .before .before .before .before in
-    let fill = c .before .before .before .before .before .before .before .fill in
-    let size = c .before .before .before .before .words .ensures in
+    let at = c .before .before .before .before in
+    let labels = at .before .before .before .before in
     let reset = c .before .before .reset in
-    rw size (laws.blank _ _ _ (start .pre) _ (fill .kept .0) _ (fill .ensures) (rw size at (reset .kept .0)) (reset .ensures))
+    blank _ _ _ (at .before .open-at .ensures) (at .parents-at .ensures) _ _ (labels .before .before .before .pre)
+    (labels .clear-labels .ensures) (labels .clear-labels .kept .0) _ (reset .kept .0) (reset .ensures)
 
 pub clear-spec : {M : Type 1} → statement M
 clear-spec =
     tie.close
     (tie.spec
-    sub-fill
-    part-fill-start
-    part-fill-end
-    fill-requires
-    words-requires
-    add-end
+    clear-labels-requires
+    open-at-requires
+    parents-at-requires
     mul-reset
     sub-reset
     part-reset-start

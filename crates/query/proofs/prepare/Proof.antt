@@ -1,18 +1,15 @@
 -- The open list comes back cleared; the map lies beyond it. Assumes nothing.
 use Rattle.area.specs.Part.{part}
-use Rattle.query.proofs.Regions as laws
+use Rattle.query.proofs.Regions.{prepared}
 use borrow.Author.Needs.{needs}
 use Rattle.query.proofs.prepare.Statement.{statement}
 use Rattle.query.proofs.prepare.Tie as tie
 
-nodes-requires : tie.Need-nodes-requires
-nodes-requires c κs = search needs
+open-at-requires : tie.Need-open-at-requires
+open-at-requires c κs = search needs
 
-words-requires : tie.Need-words-requires
-words-requires c κs = search needs
-
-add-end : tie.Need-add-end
-add-end c = search needs
+parents-at-requires : tie.Need-parents-at-requires
+parents-at-requires c κs = search needs
 
 mul-clear : tie.Need-mul-clear
 mul-clear c = search needs
@@ -35,19 +32,16 @@ same-length c = search needs
 returns : tie.Need-returns
 unfolding part
 returns c =
-    let words = c .before .before .before .before in
-    let size = words .words .ensures in
-    let enough = words .before .nodes .ensures in
+    let at = c .before .before .before .before in
     let clear = c .before .before .clear in
-    rw size (laws.prepared _ _ _ _ (words .before .before .before .pre) enough (rw size at (clear .kept .0)) (clear .ensures))
+    prepared _ _ _ (at .before .open-at .ensures) (at .parents-at .ensures) _ _ (at .before .before .before .pre) (clear .kept .0) (clear .ensures)
 
 pub prepare-spec : {M : Type 1} → statement M
 prepare-spec =
     tie.close
     (tie.spec
-    nodes-requires
-    words-requires
-    add-end
+    open-at-requires
+    parents-at-requires
     mul-clear
     sub-clear
     part-clear-start

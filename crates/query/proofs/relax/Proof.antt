@@ -1,78 +1,86 @@
 -- An arc passes where its end is labelled no higher or lies beyond the limit; else its end is arrived at. Assumes nothing.
 use mathlib.Core.Logic.{inl, inr}
 use native.Mathlib.Omega.{arith}
-use Rattle.query.proofs.Arcs as laws
+use Rattle.query.proofs.Arcs.{relax-fits, relax-arrives, relax-passes, relax-falls}
 use borrow.Author.Needs.{needs}
 use Rattle.query.proofs.relax.Statement.{statement}
 use Rattle.query.proofs.relax.Tie as tie
 
-cast-v : tie.Need-cast-v
-cast-v c = search needs
+-- where end and cost of the arc are read, and the function's start
+abbrev start : tie.After-arc-cost → tie.Start
+start c = c .before .before .before
+
+arc-end-requires : tie.Need-arc-end-requires
+arc-end-requires c κs = search needs
+
+arc-cost-requires : tie.Need-arc-cost-requires
+arc-cost-requires c κs = search needs
 
 add-e : tie.Need-add-e
 add-e c = search needs
 
-mul-if1 : tie.Need-mul-if1
-mul-if1 c = search needs
-
-slice-read-if1 : tie.Need-slice-read-if1
-slice-read-if1 c = search needs
-
-returns : tie.Need-returns
-returns c =
-    laws.relax-passes _ _ _ _ _ _ (c .before .before .before .pre) _ (inl (c .if1 .taken))
-
-estimates-at-requires : tie.Need-estimates-at-requires
-estimates-at-requires c κs = search needs
-
-add-if2 : tie.Need-add-if2
-add-if2 c = search needs
-
-mul-if2 : tie.Need-mul-if2
-mul-if2 c = search needs
-
-slice-read-if2 : tie.Need-slice-read-if2
-slice-read-if2 c = search needs
-
-add-if2-2 : tie.Need-add-if2-2
-add-if2-2 c =
-    omega (arith, laws.relax-fits _ _ _ _ _ _ (c .before .before .before .before .before .pre) _ (c .before .estimates-at .ensures))
-
-returns-2 : tie.Need-returns-2
-returns-2 c =
-    let at = c .before .before .estimates-at .ensures in
-    laws.relax-passes _ _ _ _ _ _ (c .before .before .before .before .before .before .pre) _ (inr (rw at at (c .if2 .taken)))
-
-arrive-requires : tie.Need-arrive-requires
-arrive-requires c κs =
-    let s = c .before .before .before .before .before .before .before in
-    laws.relax-arrives _ _ _ _ _ _ (s .pre) (c .before .before .before .before .if1 .left)
+label-requires : tie.Need-label-requires
+label-requires c κs = search needs
 
 same-length : tie.Need-same-length
 same-length c = search needs
 
+returns : tie.Need-returns
+returns c =
+    let read = c .before .before .before in
+    relax-passes _ _ _ _ _ (start read .pre) _ _ (read .before .arc-end .ensures) (read .arc-cost .ensures) _
+    (inl (rw (c .before .label .ensures) at (c .if1 .taken)))
+
+estimate-requires : tie.Need-estimate-requires
+estimate-requires c κs = search needs
+
+add-if2 : tie.Need-add-if2
+add-if2 c =
+    let read = c .before .before .before .before .before in
+    omega (arith, c .estimate .ensures, relax-fits _ _ _ _ _ (start read .pre) _ _ (read .before .arc-end .ensures) (read .arc-cost .ensures))
+
+same-length-2 : tie.Need-same-length-2
+same-length-2 c = search needs
+
+returns-2 : tie.Need-returns-2
+returns-2 c =
+    let read = c .before .before .before .before .before .before in
+    relax-passes _ _ _ _ _ (start read .pre) _ _ (read .before .arc-end .ensures) (read .arc-cost .ensures) _
+    (inr (rw (c .before .estimate .ensures) at (c .if2 .taken)))
+
+arrive-requires : tie.Need-arrive-requires
+arrive-requires c κs =
+    let label = c .before .before .before .before .before in
+    let read = label .before .before in
+    relax-arrives _ _ _ _ _ (start read .pre) _ _ (read .before .arc-end .ensures) (read .arc-cost .ensures)
+    (rw (label .label .ensures) at (c .before .before .before .before .if1 .left))
+
+same-length-3 : tie.Need-same-length-3
+same-length-3 c = search needs
+
 returns-3 : tie.Need-returns-3
 returns-3 c =
-    let s = c .before .before .before .before .before .before .before .before .before .before in
-    let at = c .before .before .before .before .before .before .estimates-at .ensures in
-    let t = c .before .before .arrive in
-    laws.relax-falls _ _ _ _ _ _ (s .pre) _ _ (t .ensures) (t .kept .0) _ (c .before .before .before .before .before .before .before .if1 .left) (rw at at (c .before .before .before .before .if2 .left))
+    let estimate = c .before .before .before .before .before in
+    let label = estimate .before .before .before in
+    let read = label .before .before in
+    relax-falls _ _ _ _ _ (start read .pre) _ _ (read .before .arc-end .ensures) (read .arc-cost .ensures) _ _ (c .before .before .arrive .ensures) _
+    (rw (label .label .ensures) at (estimate .before .before .if1 .left))
+    (rw (estimate .estimate .ensures) at (c .before .before .before .before .if2 .left))
 
 pub relax-spec : {M : Type 1} → statement M
 relax-spec =
     tie.close
     (tie.spec
-    cast-v
+    arc-end-requires
+    arc-cost-requires
     add-e
-    mul-if1
-    slice-read-if1
+    label-requires
+    same-length
     returns
-    estimates-at-requires
+    estimate-requires
     add-if2
-    mul-if2
-    slice-read-if2
-    add-if2-2
+    same-length-2
     returns-2
     arrive-requires
-    same-length
+    same-length-3
     returns-3)

@@ -20,7 +20,9 @@ same-length-3 : tie.Need-same-length-3
 same-length-3 c = search needs
 
 returns : tie.Need-returns
-returns c = routed-for (c .before .before .before .before .before .before .before .before .route .ensures) _ _ (c .before .before .put-numbers .ensures)
+returns c =
+    let put = c .before .before in
+    routed-for (put .before .before .before .before .before .before .route .ensures) _ _ (put .put-numbers .ensures)
 
 pub r3-route-spec : {M : Type 1} → statement M
 r3-route-spec =

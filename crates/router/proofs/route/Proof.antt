@@ -1,6 +1,6 @@
--- A refusal leaves both areas as they were; an accepted input is as its judgement states.
+-- A refusal leaves both areas as they were; an input that passes is as its judgement states.
 use borrow.Author.Needs.{needs}
-use Rattle.router.proofs.Routing.{refused-routed, stated}
+use Rattle.router.proofs.Judging.{refused-routed, passes}
 use Rattle.router.proofs.route.Statement.{statement}
 use Rattle.router.proofs.route.Tie as tie
 
@@ -16,14 +16,15 @@ refused-requires c κs = search needs
 enum-known-judgement-2 : tie.Need-enum-known-judgement-2
 enum-known-judgement-2 c = search needs
 
-accepted-requires : tie.Need-accepted-requires
-accepted-requires c κs = stated _ _ (c .before .before .before .before .before .judge .ensures) (c .before .before .before .judgement2 .given .1)
+with-room-requires : tie.Need-with-room-requires
+with-room-requires c κs =
+    passes (c .before .before .before .before .before .judge .ensures) (c .before .before .before .judgement2 .given .1)
 
 returns : tie.Need-returns
 returns c =
     let judged = c .before .before .before .before .judge .ensures in
     let is = c .before .before .judgement .given .1 in
-    refused-routed _ _ judged is (judged .some-number _ is) (c .refused .ensures)
+    refused-routed judged _ _ is (judged .some-number _ is) (c .refused .ensures)
 
 same-length : tie.Need-same-length
 same-length c = search needs
@@ -42,7 +43,7 @@ route-spec =
     enum-known-judgement
     refused-requires
     enum-known-judgement-2
-    accepted-requires
+    with-room-requires
     returns
     same-length
     same-length-2

@@ -17,7 +17,7 @@ enum-known-verdict : tie.Need-enum-known-verdict
 enum-known-verdict c = search needs
 
 route-requires : tie.Need-route-requires
-route-requires c κs = rw (c .before .before .before .verdict .given .1) at (c .before .before .before .before .before .before .before .pre)
+route-requires c κs = rw (c .before .before .verdict .given .1) at (c .before .before .before .before .before .before .pre)
 
 returns : tie.Need-returns
 returns c = written-nothing (c .enum-told .given .1)
@@ -32,7 +32,7 @@ same-length-2 : tie.Need-same-length-2
 same-length-2 c = search needs
 
 returns-3 : tie.Need-returns-3
-returns-3 c = written-route (c .before .before .before .before .before .before .verdict .given .1) (c .before .before .route .ensures)
+returns-3 c = written-route (c .before .before .before .before .before .verdict .given .1) (c .before .before .route .ensures)
 
 pub write-sheet-spec : {M : Type 1} → statement M
 write-sheet-spec =

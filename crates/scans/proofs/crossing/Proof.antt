@@ -13,42 +13,37 @@ use Rattle.scans.proofs.crossing.Tie as tie
 
 abbrev Lowered : tie.Joined1 → Type 0
 Lowered c =
-    let a = c .before .before .before .before .before .args in
-    Crossed (a .n) (a .d) (a .x) (a .least) (now (a .work)) (cond (ltb (c .if1 .out) (a .least)) (c .if1 .out) (a .least))
+    let a = c .before .before .before .before .before .before .args in
+    Crossed (a .site) (a .d) (a .x) (a .least) (now (a .work)) (cond (ltb (c .if1 .out) (a .least)) (c .if1 .out) (a .least))
 
 lowered : (c : tie.Joined1) → Lowered c
 lowered c =
-    let start = c .before .before .before .before .before in
-    let estimate = c .before .before .before .estimates-at .ensures in
-    ⊎-elim (λ t. crossed _ _ _ _ _ _ (start .pre) (t .0 .taken) (rw estimate at (t .1)))
-    (λ t. not-crossed _ _ _ _ _ _ (start .pre) (omega (arith, start .fits .least)) (t .0 .left) (t .1)) (c .if1 .came)
+    let read = c .before .before in
+    let start = read .before .before .before .before in
+    let end = read .before .before .arc-end .ensures in
+    let label = rw end at (c .before .label .ensures) in
+    let cost = read .before .arc-cost .ensures in
+    let estimate = rw end at (read .estimate .ensures) in
+    ⊎-elim (λ t. crossed _ _ _ _ _ _ (start .pre) (rw label at (t .0 .taken)) (rw (cost, estimate) at (t .1)))
+    (λ t. not-crossed _ _ _ _ _ _ (start .pre) (omega (arith, start .fits .least)) (rw label at (t .0 .left)) (t .1)) (c .if1 .came)
 
-cast-v : tie.Need-cast-v
-cast-v c = search needs
+arc-end-requires : tie.Need-arc-end-requires
+arc-end-requires c κs = search needs
+
+arc-cost-requires : tie.Need-arc-cost-requires
+arc-cost-requires c κs = search needs
 
 add-sum : tie.Need-add-sum
 add-sum c = search needs
 
-estimates-at-requires : tie.Need-estimates-at-requires
-estimates-at-requires c κs = search needs
+estimate-requires : tie.Need-estimate-requires
+estimate-requires c κs = search needs
 
 add-sum-2 : tie.Need-add-sum-2
-add-sum-2 c = search needs
+add-sum-2 c = omega (arith, rw (c .before .before .arc-end .ensures) at (c .estimate .ensures))
 
-mul-sum : tie.Need-mul-sum
-mul-sum c = search needs
-
-shared-slice-read-sum : tie.Need-shared-slice-read-sum
-shared-slice-read-sum c = search needs
-
-add-sum-3 : tie.Need-add-sum-3
-add-sum-3 c = rw (c .before .estimates-at .ensures) (omega (arith, c .before .before .before .pre))
-
-mul-if1 : tie.Need-mul-if1
-mul-if1 c = search needs
-
-shared-slice-read-if1 : tie.Need-shared-slice-read-if1
-shared-slice-read-if1 c = search needs
+label-requires : tie.Need-label-requires
+label-requires c κs = search needs
 
 returns : tie.Need-returns
 returns c = rw (lt-ltb _ _ (c .if2 .taken)) at (lowered (c .before))
@@ -60,14 +55,11 @@ pub crossing-spec : {M : Type 1} → statement M
 crossing-spec =
     tie.close
     (tie.spec
-    cast-v
+    arc-end-requires
+    arc-cost-requires
     add-sum
-    estimates-at-requires
+    estimate-requires
     add-sum-2
-    mul-sum
-    shared-slice-read-sum
-    add-sum-3
-    mul-if1
-    shared-slice-read-if1
+    label-requires
     returns
     returns-2)

@@ -1,73 +1,82 @@
 -- The parent is stored only where the arc gives the label of its end, and no parent is there. Assumes nothing.
-use mathlib.Core.Path.{sym}
+use mathlib.Core.Path.{_≡_, sym, _∙_}
 use borrow.Author.Needs.{needs}
+use Rattle.layout.specs.Regions.{labelWord, arcEnd}
 use Rattle.scans.proofs.ParentLaws.{stored-not, stored-first, stored-later}
 use Rattle.scans.proofs.parent_by.Statement.{statement}
 use Rattle.scans.proofs.parent_by.Tie as tie
 
-cast-v : tie.Need-cast-v
-cast-v c = search needs
+arc-end-requires : tie.Need-arc-end-requires
+arc-end-requires c κs = search needs
 
-mul-if1 : tie.Need-mul-if1
-mul-if1 c = search needs
+label-requires : tie.Need-label-requires
+label-requires c κs = search needs
 
-slice-read-if1 : tie.Need-slice-read-if1
-slice-read-if1 c = search needs
+arc-cost-requires : tie.Need-arc-cost-requires
+arc-cost-requires c κs = search needs
 
 add-if1 : tie.Need-add-if1
 add-if1 c = search needs
 
-returns : tie.Need-returns
-returns c = sym (stored-not _ _ _ _ _ (c .before .before .before .pre) (c .if1 .taken))
-
-parents-at-requires : tie.Need-parents-at-requires
-parents-at-requires c κs = search needs
-
-add-at : tie.Need-add-at
-add-at c = search needs
-
-mul-if2 : tie.Need-mul-if2
-mul-if2 c = search needs
-
-slice-read-if2 : tie.Need-slice-read-if2
-slice-read-if2 c = search needs
-
-mul-work : tie.Need-mul-work
-mul-work c = search needs
-
-slice-write-work : tie.Need-slice-write-work
-slice-write-work c = search needs
-
 same-length : tie.Need-same-length
 same-length c = search needs
 
+-- the function's start, where label and cost are read; whether the one is the other's sum with d
+abbrev start : tie.After-arc-cost → tie.Start
+start c = c .before .before .before .before .before
+
+end : (c : tie.After-arc-cost) → c .before .before .before .arc-end .result ≡ arcEnd (start c .args .x)
+end c = c .before .before .before .arc-end .ensures
+
+label : (c : tie.After-arc-cost) → c .before .label .result ≡ labelWord (start c .args .work .now) (arcEnd (start c .args .x))
+label c = rw (end c) at (c .before .label .ensures)
+
+returns : tie.Need-returns
+returns c =
+    let read = c .before in
+    sym (stored-not _ _ _ _ _ (start read .pre) (rw (read .arc-cost .ensures, label read) at (c .if1 .taken)))
+
+parent-requires : tie.Need-parent-requires
+parent-requires c κs = search needs
+
+set-parent-requires : tie.Need-set-parent-requires
+set-parent-requires c κs = search needs
+
+same-length-2 : tie.Need-same-length-2
+same-length-2 c = search needs
+
 returns-2 : tie.Need-returns-2
 returns-2 c =
-    let start = c .before .before .before .before .before .before in
-    let place = c .before .before .parents-at .ensures in
-    rw place (sym (stored-first _ _ _ _ _ (start .pre) (c .before .before .before .if1 .left) (rw place at (c .if2 .taken))))
+    let asked = c .before .before .before .before .before in
+    let read = asked .before .before .before in
+    let sum = rw (read .arc-cost .ensures, label read) at (asked .before .before .if1 .left) in
+    let none = rw (asked .parent .ensures, end read) at (c .before .before .before .before .if2 .taken) in
+    c .before .before .set-parent .ensures ∙ rw (end read) (sym (stored-first _ _ _ _ _ (start read .pre) sum none))
+
+same-length-3 : tie.Need-same-length-3
+same-length-3 c = search needs
 
 returns-3 : tie.Need-returns-3
 returns-3 c =
-    let start = c .before .before .before .before .before .before in
-    let place = c .before .before .parents-at .ensures in
-    sym (stored-later _ _ _ _ _ (start .pre) (c .before .before .before .if1 .left) (rw place at (c .if2 .left)))
+    let asked = c .before in
+    let read = asked .before .before .before in
+    let sum = rw (read .arc-cost .ensures, label read) at (asked .before .before .if1 .left) in
+    let some = rw (asked .parent .ensures, end read) at (c .if2 .left) in
+    sym (stored-later _ _ _ _ _ (start read .pre) sum some)
 
 pub parent-by-spec : {M : Type 1} → statement M
 parent-by-spec =
     tie.close
     (tie.spec
-    cast-v
-    mul-if1
-    slice-read-if1
+    arc-end-requires
+    label-requires
+    arc-cost-requires
     add-if1
-    returns
-    parents-at-requires
-    add-at
-    mul-if2
-    slice-read-if2
-    mul-work
-    slice-write-work
     same-length
+    returns
+    parent-requires
+    set-parent-requires
+    same-length-2
     returns-2
+    same-length-3
     returns-3)

@@ -1,68 +1,44 @@
 -- The invariant of the loop: best is the least sum over the arcs of u before arc k and whatever arcs `least` is the least over.
 -- The measure is what is left of the row. Assumes nothing.
-use Prim.Native.Nat.{_+_, _-_}
-use native.Mathlib.Omega.{arith}
+use mathlib.Core.Path.{refl}
+use Prim.Native.Nat.{_-_}
 use borrow.Author.Needs.{needs}
-use Rattle.map.specs.Layout.{rowEnd}
+use Rattle.layout.proofs.Rows.{has-arc}
 use Rattle.scans.specs.Scans.{Limiting}
-use Rattle.scans.proofs.Rows.{arc-word}
-use Rattle.scans.proofs.NextLimit.{limiting-start, limiting-step, limiting-end}
+use Rattle.scans.proofs.NextLimit.{limiting-start, limiting-arc, limiting-step, limiting-end}
 use Rattle.scans.proofs.row_limit.Statement.{statement}
 use Rattle.scans.proofs.row_limit.Tie as tie
 
 abbrev Inv-loop : tie.InvT-loop
-Inv-loop work n u least d best₀ k₀ end best k = Limiting n u k end least work best
+Inv-loop work site u least n d best₀ k₀ end best k = Limiting site u k end least work best
 
 abbrev μ-loop : tie.MeasureT-loop
-μ-loop work n u least d best₀ k₀ end best k = end - k
+μ-loop work site u least n d best₀ k₀ end best k = end - k
 
-mul-d : tie.Need-mul-d Inv-loop μ-loop
-mul-d c = search needs
-
-shared-slice-read-d : tie.Need-shared-slice-read-d Inv-loop μ-loop
-shared-slice-read-d c = search needs
+label-requires : tie.Need-label-requires Inv-loop μ-loop
+label-requires c κs = search needs
 
 row-start-requires : tie.Need-row-start-requires Inv-loop μ-loop
 row-start-requires c κs = search needs
 
-ends-at-requires : tie.Need-ends-at-requires Inv-loop μ-loop
-ends-at-requires c κs = search needs
-
-add-end : tie.Need-add-end Inv-loop μ-loop
-add-end c = search needs
-
-mul-end : tie.Need-mul-end Inv-loop μ-loop
-mul-end c = search needs
-
-shared-slice-read-end : tie.Need-shared-slice-read-end Inv-loop μ-loop
-shared-slice-read-end c = search needs
-
-cast-end : tie.Need-cast-end Inv-loop μ-loop
-cast-end c = omega (arith, c .shared-slice-known3 .given (c .before .ends-at .result + c .before .before .before .before .before .args .u))
+row-end-requires : tie.Need-row-end-requires Inv-loop μ-loop
+row-end-requires c κs = search needs
 
 loop-holds : tie.Need-loop-holds Inv-loop μ-loop
-unfolding rowEnd
-loop-holds c =
-    let start = c .before .before .before .before .before in
-    rw (c .before .before .row-start .ensures) (limiting-start _ _ _ _ _ (start .pre) (rw (c .before .ends-at .ensures)))
+loop-holds c = limiting-start _ _ _ (c .before .before .before .before .pre) _ _ _ (c .before .row-start .ensures) (c .row-end .ensures)
 
-arcs-at-requires : tie.Need-arcs-at-requires Inv-loop μ-loop
-arcs-at-requires c κs = search needs
+arc-requires : tie.Need-arc-requires Inv-loop μ-loop
+arc-requires c κs = has-arc _ _ _ _ _ _ refl (c .before .loop .inv .inside) (c .loop-test .taken)
 
-add-x : tie.Need-add-x Inv-loop μ-loop
-add-x c = search needs
-
-mul-x : tie.Need-mul-x Inv-loop μ-loop
-mul-x c = search needs
-
-shared-slice-read-x : tie.Need-shared-slice-read-x Inv-loop μ-loop
-shared-slice-read-x c = search needs
+-- where the loop is under way, where the place's label was read, and the function's start
+abbrev before-loop : tie.In-loop Inv-loop μ-loop → tie.After-label Inv-loop μ-loop
+before-loop c = c .before .before .before .before
 
 crossing-requires : tie.Need-crossing-requires Inv-loop μ-loop
 crossing-requires c κs =
-    let pre = c .before .before .before .before .before .before .before .before .before .pre in
-    let inside = c .before .before .before .loop .inv .inside in
-    rw (c .before .arcs-at .ensures) (arc-word _ _ (pre .labelled) _ _ _ _ (pre .label) inside (c .before .before .loop-test .taken))
+    let labelled = before-loop (c .before) in
+    let arc = limiting-arc _ _ _ (labelled .before .before .pre) _ _ _ _ (c .before .before .loop .inv) (c .before .loop-test .taken) in
+    rw (c .arc .ensures, labelled .label .ensures) arc
 
 add-k : tie.Need-add-k Inv-loop μ-loop
 add-k c = search needs
@@ -72,13 +48,14 @@ loop-less c = search needs
 
 loop-again : tie.Need-loop-again Inv-loop μ-loop
 loop-again c =
-    let start = c .before .before .before .before .before .before .before .before .before .before in
-    let arc = rw (c .before .before .arcs-at .ensures) at (c .crossing .ensures) in
-    let loop = c .before .before .before .before .loop in
-    limiting-step _ _ _ _ _ _ _ _ (start .pre) (loop .inv) (c .before .before .before .loop-test .taken) arc
+    let turn = c .before .before in
+    let labelled = before-loop turn in
+    let crossed = rw (c .before .arc .ensures, labelled .label .ensures) at (c .crossing .ensures) in
+    limiting-step _ _ _ (labelled .before .before .pre) _ _ _ _ (turn .before .loop .inv) (turn .loop-test .taken) _ crossed
 
 returns : tie.Need-returns Inv-loop μ-loop
-returns c = limiting-end _ _ _ _ _ _ _ (c .before .loop .inv) (c .loop-test .left)
+returns c =
+    limiting-end _ _ _ (c .before .before .before .before .before .before .pre) _ _ _ _ (c .before .loop .inv) (c .loop-test .left)
 
 pub row-limit-spec : {M : Type 1} → statement M
 row-limit-spec =
@@ -86,19 +63,11 @@ row-limit-spec =
     (tie.spec
     Inv-loop
     μ-loop
-    mul-d
-    shared-slice-read-d
+    label-requires
     row-start-requires
-    ends-at-requires
-    add-end
-    mul-end
-    shared-slice-read-end
-    cast-end
+    row-end-requires
     loop-holds
-    arcs-at-requires
-    add-x
-    mul-x
-    shared-slice-read-x
+    arc-requires
     crossing-requires
     add-k
     loop-less

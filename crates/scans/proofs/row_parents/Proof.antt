@@ -1,77 +1,70 @@
 -- The invariant of the loop: labels and map are as before, and the parents are those that the rows before that of u and the arcs of u
 -- before arc k give. The measure is what is left of the row. Assumes nothing.
-use Prim.Native.Nat.{_+_, _-_}
+use mathlib.Core.Path.{_≡_, sym}
+use mathlib.Core.Option.{some}
+use Prim.Native.Nat.{_-_}
 use native.Mathlib.Omega.{arith}
 use borrow.Author.Needs.{needs}
-use Rattle.map.specs.Layout.{rowEnd}
+use Rattle.model.specs.Costs.{costAt}
+use Rattle.layout.specs.Labels.{labels}
+use Rattle.layout.proofs.Rows.{has-arc}
+use Rattle.layout.proofs.Labels.{is-label}
 use Rattle.scans.specs.Scans.{Parenting}
-use Rattle.scans.proofs.Rows.{word-label}
 use Rattle.scans.proofs.ParentLaws.{no-parents, parenting-start, parenting-arc, parenting-step, parenting-end}
 use Rattle.scans.proofs.row_parents.Statement.{statement}
 use Rattle.scans.proofs.row_parents.Tie as tie
 
 abbrev Inv-loop : tie.InvT-loop
-Inv-loop work₀ n u d k₀ end work k = Parenting n u k end work₀ work
+Inv-loop work₀ u n d k₀ end work k = Parenting n u k end work₀ work
 
 abbrev μ-loop : tie.MeasureT-loop
-μ-loop work₀ n u d k₀ end work k = end - k
+μ-loop work₀ u n d k₀ end work k = end - k
 
-mul-d : tie.Need-mul-d Inv-loop μ-loop
-mul-d c = search needs
+label-requires : tie.Need-label-requires Inv-loop μ-loop
+label-requires c κs = search needs
 
-slice-read-d : tie.Need-slice-read-d Inv-loop μ-loop
-slice-read-d c = search needs
+same-length : tie.Need-same-length Inv-loop μ-loop
+same-length c = search needs
 
 returns : tie.Need-returns Inv-loop μ-loop
-returns c = no-parents _ _ _ (c .before .before .before .pre) (c .if1 .taken)
+returns c = no-parents _ _ _ (c .before .before .before .before .pre) (rw (c .before .label .ensures) at (c .if1 .taken))
 
 row-start-requires : tie.Need-row-start-requires Inv-loop μ-loop
 row-start-requires c κs = search needs
 
-ends-at-requires : tie.Need-ends-at-requires Inv-loop μ-loop
-ends-at-requires c κs = search needs
+row-end-requires : tie.Need-row-end-requires Inv-loop μ-loop
+row-end-requires c κs = search needs
 
-add-end : tie.Need-add-end Inv-loop μ-loop
-add-end c = search needs
+-- where the row begins: that u has a label, and the function's start
+abbrev labelled : tie.After-row-end Inv-loop μ-loop → tie.Else1 Inv-loop μ-loop
+labelled c = c .before .before .before .before
 
-mul-end : tie.Need-mul-end Inv-loop μ-loop
-mul-end c = search needs
+abbrev start : tie.Else1 Inv-loop μ-loop → tie.Start Inv-loop μ-loop
+start c = c .before .before .before .before
 
-slice-read-end : tie.Need-slice-read-end Inv-loop μ-loop
-slice-read-end c = search needs
-
-cast-end : tie.Need-cast-end Inv-loop μ-loop
-cast-end c = omega (arith, c .slice-known3 .given (c .before .ends-at .result + c .before .before .before .before .before .before .before .args .u))
+label : (c : tie.Else1 Inv-loop μ-loop) → let a = start c .args in
+    costAt (labels (a .site .places) (a .work .now)) (a .u) ≡ some (c .before .label .result)
+label c =
+    let row = start c .pre .row in
+    is-label _ _ (omega (arith, row .room)) _ _ (record { place = row .place; word = sym (c .before .label .ensures); some = c .if1 .left })
 
 loop-holds : tie.Need-loop-holds Inv-loop μ-loop
-unfolding rowEnd
-loop-holds c =
-    let start = c .before .before .before .before .before .before .before in
-    rw (c .before .before .row-start .ensures) (parenting-start _ _ _ _ (start .pre) (rw (c .before .ends-at .ensures)))
+loop-holds c = parenting-start _ _ _ (start (labelled c) .pre) _ _ (c .before .before .row-start .ensures) (c .row-end .ensures)
 
-arcs-at-requires : tie.Need-arcs-at-requires Inv-loop μ-loop
-arcs-at-requires c κs = search needs
-
-add-x : tie.Need-add-x Inv-loop μ-loop
-add-x c = search needs
-
-mul-x : tie.Need-mul-x Inv-loop μ-loop
-mul-x c = search needs
-
-slice-read-x : tie.Need-slice-read-x Inv-loop μ-loop
-slice-read-x c = search needs
+arc-requires : tie.Need-arc-requires Inv-loop μ-loop
+arc-requires c κs =
+    let inv = c .before .before .loop .inv in
+    has-arc _ _ _ _ _ _ (inv .kept .same-length) (inv .inside) (c .before .loop-test .taken)
 
 cast-parent-by : tie.Need-cast-parent-by Inv-loop μ-loop
 cast-parent-by c = search needs
 
 parent-by-requires : tie.Need-parent-by-requires Inv-loop μ-loop
 parent-by-requires c κs =
-    let start = c .before .before .before .before .before .before .before .before .before .before .before .before in
-    let has-label = c .before .before .before .before .before .before .before .before .before .if1 .left in
-    let label = word-label _ _ (start .pre .labelled) _ (start .pre .row .place) has-label in
-    let loop = c .before .before .before .before .loop in
-    rw (c .before .before .arcs-at .ensures)
-    (parenting-arc _ _ _ _ _ _ _ (start .pre .labelled) label (loop .inv) (c .before .before .before .loop-test .taken))
+    let turn = c .before .before .before in
+    let has = labelled (turn .before .before) in
+    rw (c .before .arc .ensures)
+    (parenting-arc _ _ _ _ _ _ _ (start has .pre .labelled) (label has) (turn .before .loop .inv) (turn .loop-test .taken))
 
 add-k : tie.Need-add-k Inv-loop μ-loop
 add-k c = search needs
@@ -81,15 +74,14 @@ loop-less c = search needs
 
 loop-again : tie.Need-loop-again Inv-loop μ-loop
 loop-again c =
-    let start = c .before .before .before .before .before .before .before .before .before .before .before .before .before .before .before in
-    let has-label = c .before .before .before .before .before .before .before .before .before .before .before .before .if1 .left in
-    let label = word-label _ _ (start .pre .labelled) _ (start .pre .row .place) has-label in
-    let loop = c .before .before .before .before .before .before .before .loop in
-    rw (c .before .before .parent-by .ensures, c .before .before .before .before .before .arcs-at .ensures)
-    (parenting-step _ _ _ _ _ _ _ (start .pre .labelled) label (loop .inv) (c .before .before .before .before .before .before .loop-test .taken))
+    let read = c .before .before .before .before in
+    let turn = read .before .before in
+    let has = labelled (turn .before .before) in
+    rw (c .before .before .parent-by .ensures, read .arc .ensures)
+    (parenting-step _ _ _ _ _ _ _ (start has .pre .labelled) (label has) (turn .before .loop .inv) (turn .loop-test .taken))
 
-same-length : tie.Need-same-length Inv-loop μ-loop
-same-length c = search needs
+same-length-2 : tie.Need-same-length-2 Inv-loop μ-loop
+same-length-2 c = search needs
 
 returns-2 : tie.Need-returns-2 Inv-loop μ-loop
 returns-2 c = parenting-end _ _ _ _ _ _ (c .before .loop .inv) (c .loop-test .left)
@@ -100,24 +92,17 @@ row-parents-spec =
     (tie.spec
     Inv-loop
     μ-loop
-    mul-d
-    slice-read-d
+    label-requires
+    same-length
     returns
     row-start-requires
-    ends-at-requires
-    add-end
-    mul-end
-    slice-read-end
-    cast-end
+    row-end-requires
     loop-holds
-    arcs-at-requires
-    add-x
-    mul-x
-    slice-read-x
+    arc-requires
     cast-parent-by
     parent-by-requires
     add-k
     loop-less
     loop-again
-    same-length
+    same-length-2
     returns-2)

@@ -1,28 +1,29 @@
 -- The invariant: the queries done, whose total the allowance lasts for, and those from the round on are the search's; the round's record
 -- carries the outcome of the last one done; the map is as it was, and the open list is ready. The measure is the number of queries left.
 -- Assumes nothing.
-use mathlib.Core.Path.{_≡_, ap, _∙_}
+use mathlib.Core.Path.{_≡_, _∙_}
 use mathlib.Core.List.{List}
-use Prim.Native.Nat.{ℕ, _+_, _-_}
+use Prim.Native.Nat.{ℕ, _-_}
 use native.Mathlib.Omega.{arith}
-use borrow.Author.Needs.{needs}
-use lib.ListN.{length, getD, drop}
-use Rattle.map.specs.Layout.{endsAt, problemAt, Holds}
+use lib.ListN.{length, drop}
+use Rattle.layout.specs.Regions.{endsAt}
+use Rattle.layout.specs.Map.{problemAt, Holds}
+use Rattle.layout.proofs.Held.{holds-same}
 use Rattle.model.specs.Rounds.{trace}
-use Rattle.map.proofs.Held.{holds-same}
 use Rattle.search.specs.Underway.{BetweenQueries}
 use Rattle.search.proofs.RoundTurns as turns
+use borrow.Author.Needs.{needs}
 use Rattle.search.proofs.search.Statement.{statement}
 use Rattle.search.proofs.search.Tie as tie
 
 abbrev Inv-loop : tie.InvT-loop
-Inv-loop work₀ size start allowance n m round₀ total₀ queries₀ work round total queries =
-    BetweenQueries n m start allowance work₀ work round total queries
+Inv-loop work₀ site allowance round₀ expansions₀ queries₀ work round expansions queries =
+    BetweenQueries site allowance work₀ work round expansions queries
 
 abbrev μ-loop : tie.MeasureT-loop
-μ-loop work₀ size start allowance n m round₀ total₀ queries₀ work round total queries =
-    length (trace (problemAt n start work₀)) - queries
+μ-loop work₀ site allowance round₀ expansions₀ queries₀ work round expansions queries = length (trace (problemAt site work₀)) - queries
 
+-- from where the open list is ready back to the function's start
 abbrev entry : tie.After-slice-known2 Inv-loop μ-loop → tie.Start Inv-loop μ-loop
 entry c = c .before .before .before .before .before
 
@@ -31,30 +32,29 @@ abbrev area : tie.After-slice-known2 Inv-loop μ-loop → List ℕ
 area c = c .before .before .prepare .last .0
 
 abbrev Same-at : tie.After-slice-known2 Inv-loop μ-loop → Type 0
-Same-at c = let a = entry c .args in drop (endsAt (a .size .places)) (area c) ≡ drop (endsAt (a .size .places)) (a .work .now)
+Same-at c = let a = entry c .args in drop (endsAt (a .site .places)) (area c) ≡ drop (endsAt (a .site .places)) (a .work .now)
 
 same-map : (c : tie.After-slice-known2 Inv-loop μ-loop) → Same-at c
 same-map c = c .before .before .prepare .ensures .same-map
 
 abbrev Holds-at : tie.After-slice-known2 Inv-loop μ-loop → Type 0
-Holds-at c = let a = entry c .args in Holds (a .size .places) (a .size .arcs) (a .start) (area c)
+Holds-at c = Holds (entry c .args .site) (area c)
 
 holds : (c : tie.After-slice-known2 Inv-loop μ-loop) → Holds-at c
-holds c = holds-same _ _ _ (same-map c) _ _ (c .before .before .prepare .kept .0) (entry c .pre)
+holds c = holds-same _ _ _ (same-map c) (c .before .before .prepare .kept .0) (entry c .pre)
 
 -- where the queries have begun
 abbrev began : tie.At-loop Inv-loop μ-loop → tie.After-slice-known2 Inv-loop μ-loop
-began c = c .before .before .before
+began c = c .before .before .before .before
 
 -- the turn whose query has ended
 abbrev Turn-at : tie.After-query Inv-loop μ-loop → Type 0
 Turn-at c =
     let start = began (c .before .before .before) in
     let a = entry start .args in
-    let m = start .before .before .prepare .result in
     let loop = c .before .before .before .loop in
-    turns.Turn (a .size .places) m (a .size .arcs) (a .start) (a .allowance) (area start) (loop .work) (loop .round)
-    (loop .total) (loop .queries) (c .before .before .limit-of .result) (c .query .last .0) (c .query .result)
+    turns.Turn (a .site) (a .allowance) (area start) (loop .work) (loop .round) (loop .expansions) (loop .queries)
+    (c .before .before .limit-of .result) (c .query .last .0) (c .query .result)
 
 turn : (c : tie.After-query Inv-loop μ-loop) → Turn-at c
 turn c =
@@ -69,23 +69,16 @@ turn c =
 prepare-requires : tie.Need-prepare-requires Inv-loop μ-loop
 prepare-requires c κs = turns.preparable (c .before .before .pre)
 
-estimates-at-requires : tie.Need-estimates-at-requires Inv-loop μ-loop
-estimates-at-requires c κs = turns.sizes (holds c) .few
+cast-estimate : tie.Need-cast-estimate Inv-loop μ-loop
+cast-estimate c = search needs
 
-add-t19 : tie.Need-add-t19 Inv-loop μ-loop
-add-t19 c = record { fits = omega (arith, c .estimates-at .ensures, turns.sizes (holds (c .before))) }
-
-mul-t20 : tie.Need-mul-t20 Inv-loop μ-loop
-mul-t20 c = record { fits = omega (arith, c .estimates-at .ensures, turns.sizes (holds (c .before))) }
-
-slice-read-t22 : tie.Need-slice-read-t22 Inv-loop μ-loop
-slice-read-t22 c = omega (arith, c .before .estimates-at .ensures, turns.sizes (holds (c .before .before)))
+estimate-requires : tie.Need-estimate-requires Inv-loop μ-loop
+estimate-requires c κs = turns.start-place (holds (c .before .before))
 
 loop-holds : tie.Need-loop-holds Inv-loop μ-loop
 loop-holds c =
-    let start = c .before .before in
-    let low = ap (λ (i : ℕ). getD (area start) (i + entry start .args .start) 0) (c .before .estimates-at .ensures) in
-    turns.begins (holds start) _ (start .before .before .prepare .ensures .ready) _ _ _ low
+    let start = c .before .before .before in
+    turns.begins (holds start) (start .before .before .prepare .ensures .ready) _ _ _ (c .estimate .ensures)
 
 limit-of-requires : tie.Need-limit-of-requires Inv-loop μ-loop
 limit-of-requires c κs = turns.limit-below (holds (began c)) (c .loop .inv)
@@ -101,21 +94,23 @@ query-requires c κs =
     let loop = c .before .before in
     turns.askable (holds (began loop)) (loop .loop .inv) _ (c .before .limit-of .ensures)
 
-add-total : tie.Need-add-total Inv-loop μ-loop
-add-total c = record { fits = omega (arith, turns.total-within (turn (c .before .before .before))) }
+add-expansions : tie.Need-add-expansions Inv-loop μ-loop
+add-expansions c = record { fits = omega (arith, turns.total-within (turn (c .before .before .before))) }
+
+cut-short-requires : tie.Need-cut-short-requires Inv-loop μ-loop
+cut-short-requires c κs = search needs
 
 same-length : tie.Need-same-length Inv-loop μ-loop
 same-length c = search needs
 
 returns : tie.Need-returns Inv-loop μ-loop
 returns c =
-    let query = c .before .before .before .before in
-    turns.searched-same (same-map (began (query .before .before .before))) (turns.turn-spent (turn query) (c .if1 .taken))
+    let query = c .before .before .before .before .before in
+    rw (c .cut-short .ensures)
+    (turns.searched-same (same-map (began (query .before .before .before))) (turns.turn-spent (turn query) (c .before .if1 .taken)))
 
 after-requires : tie.Need-after-requires Inv-loop μ-loop
-after-requires c κs =
-    let t = turn (c .before .before .before .before) in
-    omega (arith, turns.budget-below (t .holds) (t .between))
+after-requires c κs = turns.turn-fits (turn (c .before .before .before .before)) (c .if1 .left)
 
 enum-told : tie.Need-enum-told Inv-loop μ-loop
 enum-told c = search needs
@@ -137,21 +132,24 @@ returns-2 c =
     let after = c .before .before .before .before .before .before in
     let query = after .before .before .before .before .before in
     let told = c .before .before .before .before .enum-told .given .1 in
-    let routed = turns.turn-routed (turn query) (after .before .if1 .left) _ (after .after .ensures) _ _ told (c .before .before .found .ensures) in
+    let routed = turns.turn-routed (turn query) (after .before .if1 .left) _ (after .after .ensures) told _ _ (c .before .before .found .ensures) in
     turns.searched-same (same-map (began (query .before .before .before))) routed
 
 enum-told-2 : tie.Need-enum-told-2 Inv-loop μ-loop
 enum-told-2 c = search needs
+
+no-goal-requires : tie.Need-no-goal-requires Inv-loop μ-loop
+no-goal-requires c κs = search needs
 
 same-length-3 : tie.Need-same-length-3 Inv-loop μ-loop
 same-length-3 c = search needs
 
 returns-3 : tie.Need-returns-3 Inv-loop μ-loop
 returns-3 c =
-    let after = c .before .before in
+    let after = c .before .before .before in
     let query = after .before .before .before .before .before in
-    let none = turns.turn-no-route (turn query) (after .before .if1 .left) _ (after .after .ensures) (c .enum-told2 .given .1) in
-    turns.searched-same (same-map (began (query .before .before .before))) none
+    let none = turns.turn-no-route (turn query) (after .before .if1 .left) _ (after .after .ensures) (c .before .enum-told2 .given .1) in
+    rw (c .no-goal .ensures) (turns.searched-same (same-map (began (query .before .before .before))) none)
 
 enum-told-3 : tie.Need-enum-told-3 Inv-loop μ-loop
 enum-told-3 c = search needs
@@ -188,16 +186,15 @@ search-spec =
     Inv-loop
     μ-loop
     prepare-requires
-    estimates-at-requires
-    add-t19
-    mul-t20
-    slice-read-t22
+    cast-estimate
+    estimate-requires
     loop-holds
     limit-of-requires
     add-queries
     sub-query
     query-requires
-    add-total
+    add-expansions
+    cut-short-requires
     same-length
     returns
     after-requires
@@ -206,6 +203,7 @@ search-spec =
     same-length-2
     returns-2
     enum-told-2
+    no-goal-requires
     same-length-3
     returns-3
     enum-told-3

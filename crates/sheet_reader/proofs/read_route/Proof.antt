@@ -7,7 +7,9 @@ use Rattle.sheet_reader.proofs.read_route.Statement.{statement}
 use Rattle.sheet_reader.proofs.read_route.Tie as tie
 
 -- what the tests of the length leave
-header : (c : tie.Else2) → Header (c .before .before .before .before .before .before .args .body .now) (c .before .before .before .u32-at .result) (c .before .index .result)
+header : (c : tie.Else2)
+    → Header (c .before .before .before .before .before .before .args .body .now) (c .before .before .before .u32-at .result)
+    (c .before .index .result)
 header c =
     record {
       costs = c .before .before .before .u32-at .ensures;
@@ -92,7 +94,8 @@ returns-7 : tie.Need-returns-7
 returns-7 c =
     let p = c .before .before .places-of in
     let h = header (c .before .before .before .before .before .before .before) in
-    route-sheet _ _ _ h (omega arith) (omega arith) (omega arith) (omega arith) (p .result .possible) (c .if7 .taken) (p .result .list) (p .ensures) _ (omega arith)
+    route-sheet _ _ _ h (omega arith) (omega arith) (omega arith) (omega arith) (p .result .possible) (c .if7 .taken)
+    (p .result .list) (p .ensures) _ (omega arith)
 
 refused-requires-7 : tie.Need-refused-requires-7
 refused-requires-7 c κs = search needs

@@ -11,7 +11,7 @@ use lib.ListN.{length}
 use lib.Seq.{sets, length-sets}
 use Rattle.model.specs.Bytes.{put16, put16s}
 use Rattle.area.proofs.put16.Reads as put16-reads
-use Rattle.sheet_writer.proofs.Counting.{has-parent}
+use Rattle.sheet_writer.proofs.Counting.{has-place}
 use Rattle.sheet_writer.proofs.Places.{earlier, fits-earlier, earlier-written, none-earlier, place-written}
 use Rattle.sheet_writer.proofs.parent.Reads as parent-reads
 use Rattle.sheet_writer.proofs.put_places.Reads as put-places
@@ -35,7 +35,7 @@ calls t = (parent-reads.Asked, parent-reads.Learnt, put-places-below t, put-plac
 
 module _ (t : ℕ) where
   parent-requires : lts.Need-parent-requires (calls t) (put-places-at t) put-places.Post
-  parent-requires c κs = has-parent (c .before .before .before .pre .1 .leads)
+  parent-requires c κs = has-place (c .before .before .before .pre .1 .leads)
 
   sub-put-places : lts.Need-sub-put-places (calls t) (put-places-at t) put-places.Post
   sub-put-places c = search needs

@@ -1,19 +1,19 @@
 -- The loop's invariant: the places before those counted lead to the word in hand. The measure is how many places are left of all.
 use native.Mathlib.Omega.{arith}
-use Rattle.sheet_writer.proofs.Counting.{has-parent, counting-begins, counting-place, counting-goes-on, counting-ends}
+use Rattle.sheet_writer.proofs.Counting.{has-place, counting-begins, counting-place, counting-goes-on, counting-ends}
 use Prim.Native.Nat.{_-_}
-use Rattle.sheet_writer.specs.Places.{Counting}
+use Rattle.sheet_writer.specs.Places.{CountingArcs}
 use Rattle.sheet_writer.proofs.arcs_to.Statement.{statement}
 use Rattle.sheet_writer.proofs.arcs_to.Tie as tie
 
 abbrev Inv-loop : tie.InvT-loop
-Inv-loop work n v arcs₀ u₀ arcs u = Counting n work v u arcs
+Inv-loop work n v arcs₀ u₀ arcs u = CountingArcs n work v u arcs
 
 abbrev μ-loop : tie.MeasureT-loop
 μ-loop work n v arcs₀ u₀ arcs u = n - arcs
 
 parent-requires : tie.Need-parent-requires Inv-loop μ-loop
-parent-requires c κs = has-parent (c .before .pre)
+parent-requires c κs = has-place (c .before .pre)
 
 loop-holds : tie.Need-loop-holds Inv-loop μ-loop
 loop-holds c = counting-begins (c .parent .result) (c .before .before .pre) (c .parent .ensures)

@@ -44,7 +44,8 @@ returns c =
     let at-arcs = at-header .before .before in
     let fits = at-arcs .before .before .before .pre in
     let counted = at-arcs .arcs-to .ensures .count (fits .leads .places) (fits .leads .follows) in
-    route-written fits (sym counted) (at-header .put-header .ensures) (at-places .put-places .ensures .written (fits .leads .places) (fits .leads .follows))
+    let written = at-places .put-places .ensures .written (fits .leads .places) (fits .leads .follows) in
+    route-written fits (sym counted) (at-header .put-header .ensures) written
 
 pub route-spec : {M : Type 1} → statement M
 route-spec =

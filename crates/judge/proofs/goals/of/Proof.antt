@@ -1,16 +1,16 @@
--- `goals::of` meets its contract. The loop's invariant, `Walked`: what is noted so far, with the `left` goals from byte `from` on, is what
+-- `goals::of` meets its contract. The loop's invariant, `GoalsWalked`: what is noted so far, with the `left` goals from byte `from` on, is what
 -- is noted of all goals. The measure is `left`. Assumes nothing.
 use mathlib.Core.Path.{refl, ap, _∙_}
 use native.Mathlib.Omega.{arith}
 use borrow.Author.Needs.{needs}
-use Rattle.judge.specs.Goals.{note, Walked}
+use Rattle.judge.specs.Goals.{note, GoalsWalked}
 use Rattle.judge.proofs.GoalLaws.{walk-again, walk-checked}
 use Rattle.model.specs.Bytes.{u16s}
 use Rattle.judge.proofs.goals.of.Statement.{statement}
 use Rattle.judge.proofs.goals.of.Tie as tie
 
 abbrev Inv-loop : tie.InvT-loop
-Inv-loop input at count places marks g₀ from₀ left₀ g from left = Walked input (u16s count input at) places marks from left g
+Inv-loop input at count places marks g₀ from₀ left₀ g from left = GoalsWalked input (u16s count input at) places marks from left g
 
 abbrev μ-loop : tie.MeasureT-loop
 μ-loop input at count places marks g₀ from₀ left₀ g from left = left
@@ -39,7 +39,8 @@ loop-less c = search needs
 loop-again : tie.Need-loop-again Inv-loop μ-loop
 loop-again c =
     let goal = c .before .index .ensures .0 ∙ c .before .before .u16-at .ensures in
-    walk-again _ _ _ _ _ _ _ _ (c .before .before .before .before .loop .inv) (c .before .before .before .loop-test .taken) (c .with-goal .ensures ∙ ap (note _ _ _) goal)
+    let test = c .before .before .before in
+    walk-again _ _ _ _ _ _ _ _ (test .before .loop .inv) (test .loop-test .taken) (c .with-goal .ensures ∙ ap (note _ _ _) goal)
 
 returns : tie.Need-returns Inv-loop μ-loop
 returns c = walk-checked _ _ _ _ _ _ _ (c .before .loop .inv) (omega arith)

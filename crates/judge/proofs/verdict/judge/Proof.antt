@@ -1,24 +1,21 @@
 -- `verdict::judge` meets its contract: one law for each answer. Assumes nothing.
+use mathlib.Core.Path.{refl}
 use borrow.Author.Needs.{needs}
-use Rattle.judge.proofs.JudgeMap.{form-refused, formed}
+use Rattle.judge.proofs.JudgeMap.{zeros-clear, form-refused, formed}
 use Rattle.judge.proofs.verdict.judge.Statement.{statement}
 use Rattle.judge.proofs.verdict.judge.Tie as tie
 
 of-requires : tie.Need-of-requires
-of-requires c κs = search needs
-
-form-number-requires : tie.Need-form-number-requires
-form-number-requires c κs = search needs
+of-requires c κs = record { room = refl; zero = zeros-clear 4096 }
 
 returns : tie.Need-returns
-returns c = form-refused _ _ (c .before .before .before .before .of .ensures) _ (c .before .form-number .ensures) _ _ (c .if1 .taken)
+returns c = form-refused _ _ _ (c .before .before .of .ensures) (c .if1 .taken)
 
 judge-map-requires : tie.Need-judge-map-requires
-judge-map-requires c κs = formed _ _ (c .before .before .before .before .of .ensures) _ (c .before .form-number .ensures) (c .if1 .left)
+judge-map-requires c κs = formed _ _ _ (c .before .before .before .of .ensures) (c .before .if1 .left)
 
 returns-2 : tie.Need-returns-2
 returns-2 c = search needs
 
 pub judge-spec : {M : Type 1} → statement M
-judge-spec =
-    tie.close (tie.spec of-requires form-number-requires returns judge-map-requires returns-2)
+judge-spec = tie.close (tie.spec of-requires returns judge-map-requires returns-2)

@@ -1,23 +1,35 @@
--- `record::end_of` meets its contract: an arc and an estimate end where their kind says. Assumes nothing.
+-- `record::end_of` meets its contract: an arc and an estimate end where they say. Assumes nothing.
 use native.Mathlib.Omega.{arith}
 use borrow.Author.Needs.{needs}
+use Rattle.map.specs.Items.{endBy}
 use Rattle.map.proofs.record.end_of.Statement.{statement}
 use Rattle.map.proofs.record.end_of.Tie as tie
 
-add-result : tie.Need-add-result
-add-result c = omega (arith, c .before .before .before .pre .arc (c .before .if1 .taken))
+enum-told : tie.Need-enum-told
+enum-told c = search needs
 
-returns : tie.Need-returns
-returns c = c .before .before .before .pre .arc (c .before .if1 .taken)
+add-result : tie.Need-add-result
+unfolding endBy
+add-result c = omega (arith, rw (c .before .enum-told .given .1) at (c .before .before .before .pre))
+
+enum-told-2 : tie.Need-enum-told-2
+enum-told-2 c = search needs
 
 add-result-2 : tie.Need-add-result-2
-add-result-2 c = omega (arith, c .before .before .before .before .before .pre .estimate (c .before .if2 .taken))
+unfolding endBy
+add-result-2 c = omega (arith, rw (c .before .enum-told2 .given .1) at (c .before .before .before .pre))
+
+returns : tie.Need-returns
+unfolding endBy
+returns c = rw (c .before .enum-told .given .1) at (c .before .before .before .pre)
 
 returns-2 : tie.Need-returns-2
-returns-2 c = c .before .before .before .before .before .pre .estimate (c .before .if2 .taken)
+unfolding endBy
+returns-2 c = rw (c .before .enum-told2 .given .1) at (c .before .before .before .pre)
 
 returns-3 : tie.Need-returns-3
 returns-3 c = search needs
 
 pub end-of-spec : {M : Type 1} → statement M
-end-of-spec = tie.close (tie.spec add-result returns add-result-2 returns-2 returns-3)
+end-of-spec =
+    tie.close (tie.spec enum-told add-result enum-told-2 add-result-2 returns returns-2 returns-3)

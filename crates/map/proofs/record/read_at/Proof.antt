@@ -28,7 +28,8 @@ returns-3 : tie.Need-returns-3
 unfolding readAt
 returns-3 c =
     let len : c .before .index .result ≡ u16 _ _ = c .before .index .ensures .0 ∙ c .before .before .u16-at .ensures in
-    simp (ne-eqb _ _ (c .before .before .before .before .if1 .left), le-ltb _ _ (c .before .before .before .if2 .left), ← len, lt-ltb _ _ (c .if3 .taken))
+    let d = c .before .before .before in
+    simp (ne-eqb _ _ (d .before .if1 .left), le-ltb _ _ (d .if2 .left), ← len, lt-ltb _ _ (c .if3 .taken))
 
 add-u16-at : tie.Need-add-u16-at
 add-u16-at c = search needs

@@ -6,15 +6,19 @@ use native.Mathlib.Omega.{arith}
 use borrow.Author.Needs.{needs}
 use Rattle.open_list.specs.Loops.{Closing}
 use Rattle.open_list.specs.Tree.{treeKeys}
+use Rattle.open_list.proofs.Eight.{in-fours}
 use Rattle.open_list.proofs.Replays as laws
 use Rattle.open_list.proofs.tree.close.Statement.{statement}
 use Rattle.open_list.proofs.tree.close.Tie as tie
 
 abbrev Inv-loop : tie.InvT-loop
-Inv-loop words₀ m p i₀ x₀ words i x = Closing m (treeKeys m words₀) words x i
+Inv-loop words₀ places p m i₀ block x₀ words i x = Closing places m (treeKeys places words₀) words x i
 
 abbrev μ-loop : tie.MeasureT-loop
-μ-loop words₀ m p i₀ x₀ words i x = i
+μ-loop words₀ places p m i₀ block x₀ words i x = i
+
+nodes-requires : tie.Need-nodes-requires Inv-loop μ-loop
+nodes-requires c κs = search needs
 
 add-words : tie.Need-add-words Inv-loop μ-loop
 add-words c = search needs
@@ -34,53 +38,85 @@ add-i c = search needs
 sub-i : tie.Need-sub-i Inv-loop μ-loop
 sub-i c = search needs
 
-mul-leaves8 : tie.Need-mul-leaves8 Inv-loop μ-loop
-mul-leaves8 c = search needs
+mul-block : tie.Need-mul-block Inv-loop μ-loop
+mul-block c = search needs
 
-add-leaves8 : tie.Need-add-leaves8 Inv-loop μ-loop
-add-leaves8 c = search needs
+add-block : tie.Need-add-block Inv-loop μ-loop
+add-block c = search needs
 
-sub-leaves8 : tie.Need-sub-leaves8 Inv-loop μ-loop
-sub-leaves8 c = omega (arith, c .before .before .pre .tree .shape .nodes .form)
+sub-block : tie.Need-sub-block Inv-loop μ-loop
+sub-block c = omega (arith, c .nodes .ensures .form)
 
-leaves8-requires : tie.Need-leaves8-requires Inv-loop μ-loop
-leaves8-requires c κs = laws.first-leaves _ _ _ _ (c .before .before .pre)
+leaves4-requires : tie.Need-leaves4-requires Inv-loop μ-loop
+leaves4-requires c κs =
+    let nodes = c .before in
+    let form = nodes .nodes .ensures .form in
+    laws.first-leaves _ _ _ _ _ (nodes .nodes .ensures .same) (nodes .before .before .pre) _ _ (omega (arith, form)) (omega (arith, form))
+
+add-leaves4 : tie.Need-add-leaves4 Inv-loop μ-loop
+add-leaves4 c = search needs
+
+leaves4-requires-2 : tie.Need-leaves4-requires-2 Inv-loop μ-loop
+leaves4-requires-2 c κs =
+    let nodes = c .before .before .before in
+    let form = nodes .nodes .ensures .form in
+    laws.first-leaves _ _ _ _ _ (nodes .nodes .ensures .same) (nodes .before .before .pre) _ _ (omega (arith, form)) (omega (arith, form))
+
+first-requires : tie.Need-first-requires Inv-loop μ-loop
+first-requires c κs = search needs
 
 loop-holds : tie.Need-loop-holds Inv-loop μ-loop
-loop-holds c = laws.closing-start _ _ _ _ (c .before .before .before .pre) _ (c .leaves8 .ensures)
+loop-holds c =
+    let right = c .before in
+    let left = right .before .before in
+    let nodes = left .before .before in
+    let least = in-fours _ _ _ _ _ (left .leaves4 .ensures) (right .leaves42 .ensures) (c .first .ensures) in
+    laws.closing-start _ _ _ _ _ (nodes .nodes .ensures .same) (nodes .before .before .pre) _ least
 
 sub-j : tie.Need-sub-j Inv-loop μ-loop
 sub-j c = search needs
 
+mul-c : tie.Need-mul-c Inv-loop μ-loop
+mul-c c = search needs
+
+add-c : tie.Need-add-c Inv-loop μ-loop
+add-c c = search needs
+
 store-requires : tie.Need-store-requires Inv-loop μ-loop
 store-requires c κs = search needs
 
-mul-nodes8 : tie.Need-mul-nodes8 Inv-loop μ-loop
-mul-nodes8 c = search needs
+nodes4-requires : tie.Need-nodes4-requires Inv-loop μ-loop
+nodes4-requires c κs = search needs
 
-add-nodes8 : tie.Need-add-nodes8 Inv-loop μ-loop
-add-nodes8 c = search needs
+add-nodes4 : tie.Need-add-nodes4 Inv-loop μ-loop
+add-nodes4 c = search needs
 
-nodes8-requires : tie.Need-nodes8-requires Inv-loop μ-loop
-nodes8-requires c κs = search needs
+nodes4-requires-2 : tie.Need-nodes4-requires-2 Inv-loop μ-loop
+nodes4-requires-2 c κs = search needs
+
+first-requires-2 : tie.Need-first-requires-2 Inv-loop μ-loop
+first-requires-2 c κs = search needs
 
 store-requires-2 : tie.Need-store-requires-2 Inv-loop μ-loop
 store-requires-2 c κs = search needs
 
-first-requires : tie.Need-first-requires Inv-loop μ-loop
-first-requires c κs = search needs
+first-requires-3 : tie.Need-first-requires-3 Inv-loop μ-loop
+first-requires-3 c κs = search needs
 
 loop-less : tie.Need-loop-less Inv-loop μ-loop
 loop-less c = search needs
 
 loop-again : tie.Need-loop-again Inv-loop μ-loop
 loop-again c =
-    let loop = c .before .before .before .before .before .before .before .before .before .before .before .before .loop in
-    let above = c .before .before .before .before .before .before .before .before .before .before .before .loop-test .taken in
-    let away = c .before .before .before .before .before .before .before .before .before .store .ensures in
-    let others = c .before .before .before .before .before .nodes8 .ensures in
-    let back = c .before .before .before .store2 .ensures in
-    laws.closing-step _ _ _ _ _ (loop .inv) 0xFFFF_FFFF_FFFF_FFFF _ _ _ _ above away (omega arith) others back (c .first .ensures)
+    let back = c .before .before .before in
+    let first = back .before .before in
+    let right = first .before in
+    let left = right .before .before in
+    let away = left .before .before .before .before in
+    let turn = away .before .before in
+    let others = in-fours _ _ _ _ _ (left .nodes4 .ensures) (right .nodes42 .ensures) (first .first2 .ensures) in
+    laws.closing-step _ _ _ _ _ _ (turn .before .loop .inv) 0xFFFF_FFFF_FFFF_FFFF _ _ _ _ (turn .loop-test .taken) (away .store .ensures)
+    (omega arith) others (back .store2 .ensures) (c .first3 .ensures)
 
 store-requires-3 : tie.Need-store-requires-3 Inv-loop μ-loop
 store-requires-3 c κs = search needs
@@ -91,7 +127,8 @@ same-length c = search needs
 returns : tie.Need-returns Inv-loop μ-loop
 returns c =
     let left = c .before .before .before .before in
-    laws.closing-end _ _ _ _ _ (left .before .loop .inv) _ _ _ _ refl (omega (arith, left .loop-test .left)) (c .before .before .store3 .ensures)
+    let root = c .before .before .store3 .ensures in
+    laws.closing-end _ _ _ _ _ _ (left .before .loop .inv) _ _ _ _ refl (omega arith) (omega (arith, left .loop-test .left)) root
 
 pub close-spec : {M : Type 1} → statement M
 close-spec =
@@ -99,24 +136,31 @@ close-spec =
     (tie.spec
     Inv-loop
     μ-loop
+    nodes-requires
     add-words
     add-words-2
     mul-words
     slice-write-words
     add-i
     sub-i
-    mul-leaves8
-    add-leaves8
-    sub-leaves8
-    leaves8-requires
+    mul-block
+    add-block
+    sub-block
+    leaves4-requires
+    add-leaves4
+    leaves4-requires-2
+    first-requires
     loop-holds
     sub-j
+    mul-c
+    add-c
     store-requires
-    mul-nodes8
-    add-nodes8
-    nodes8-requires
+    nodes4-requires
+    add-nodes4
+    nodes4-requires-2
+    first-requires-2
     store-requires-2
-    first-requires
+    first-requires-3
     loop-less
     loop-again
     store-requires-3

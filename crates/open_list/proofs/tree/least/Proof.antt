@@ -10,7 +10,9 @@ node-requires : tie.Need-node-requires
 node-requires c κs = search needs
 
 returns : tie.Need-returns
-returns c = root _ _ _ (c .before .before .pre) (c .node .ensures) (omega arith)
+returns c =
+    let tree = c .before .before .pre in
+    root _ _ _ _ (tree .shape) (tree .right) (c .node .ensures) (omega arith)
 
 pub least-spec : {M : Type 1} → statement M
 least-spec = tie.close (tie.spec node-requires returns)

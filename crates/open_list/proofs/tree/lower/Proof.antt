@@ -10,10 +10,13 @@ use Rattle.open_list.proofs.tree.lower.Statement.{statement}
 use Rattle.open_list.proofs.tree.lower.Tie as tie
 
 abbrev Inv-loop : tie.InvT-loop
-Inv-loop words₀ m p key x i₀ words i = Lowering m (treeKeys m words₀) words x i
+Inv-loop words₀ places p key m x i₀ words i = Lowering places m (treeKeys places words₀) words x i
 
 abbrev μ-loop : tie.MeasureT-loop
-μ-loop words₀ m p key x i₀ words i = i
+μ-loop words₀ places p key m x i₀ words i = i
+
+nodes-requires : tie.Need-nodes-requires Inv-loop μ-loop
+nodes-requires c κs = search needs
 
 add-words : tie.Need-add-words Inv-loop μ-loop
 add-words c = search needs
@@ -37,7 +40,7 @@ sub-i : tie.Need-sub-i Inv-loop μ-loop
 sub-i c = search needs
 
 loop-holds : tie.Need-loop-holds Inv-loop μ-loop
-loop-holds c = laws.lowering-start _ _ _ _ _ (c .before .before .pre) (c .pair .ensures)
+loop-holds c = laws.lowering-start _ _ _ _ _ _ (c .before .nodes .ensures .same) (c .before .before .before .pre) (c .pair .ensures)
 
 node-requires : tie.Need-node-requires Inv-loop μ-loop
 node-requires c κs = search needs
@@ -47,7 +50,7 @@ same-length c = search needs
 
 returns : tie.Need-returns Inv-loop μ-loop
 returns c =
-    laws.lowering-stops _ _ _ _ _ (c .before .before .before .loop .inv) _ _ _ refl (omega (arith, c .before .node .ensures))
+    laws.lowering-stops _ _ _ _ _ _ (c .before .before .before .loop .inv) _ _ _ refl (omega arith) (omega (arith, c .before .node .ensures))
 
 store-requires : tie.Need-store-requires Inv-loop μ-loop
 store-requires c κs = search needs
@@ -61,7 +64,7 @@ returns-2 c =
     let node = c .before .before .before .before .before .before .node .ensures in
     let above = c .before .before .before .before .before .if1 .left in
     let store = c .before .before .before .store .ensures in
-    laws.lowering-end _ _ _ _ _ (loop .inv) _ store (omega (arith, node, above)) _ _ _ refl (c .if2 .taken)
+    laws.lowering-end _ _ _ _ _ _ (loop .inv) _ store (omega (arith, node, above)) _ _ _ refl (omega arith) (c .if2 .taken)
 
 sub-i-2 : tie.Need-sub-i-2 Inv-loop μ-loop
 sub-i-2 c = search needs
@@ -75,7 +78,7 @@ loop-again c =
     let node = c .before .before .before .before .before .before .node .ensures in
     let above = c .before .before .before .before .before .if1 .left in
     let store = c .before .before .before .store .ensures in
-    laws.lowering-step _ _ _ _ _ (loop .inv) _ store (omega (arith, node, above)) (omega (arith, c .if2 .left))
+    laws.lowering-step _ _ _ _ _ _ (loop .inv) _ store (omega (arith, node, above)) (omega (arith, c .if2 .left))
 
 pub lower-spec : {M : Type 1} → statement M
 lower-spec =
@@ -83,6 +86,7 @@ lower-spec =
     (tie.spec
     Inv-loop
     μ-loop
+    nodes-requires
     add-words
     add-words-2
     mul-words

@@ -1,0 +1,79 @@
+-- What a record of the input says, as the reader hands it on.
+use mathlib.Core.Path.{_≡_}
+use mathlib.Core.Bool.{Bool, true, false, cond, _||_, not}
+use mathlib.Core.List.{List}
+use Prim.Native.Nat.{ℕ, _+_, _*_, _≤_}
+use lib.Dec.{ltb, eqb}
+use lib.ListN.{length}
+use Rattle.map.specs.declared.record as declared
+use Rattle.map.specs.declared.record.Item.{Item}
+use Rattle.map.specs.declared.record.Item.the-variants.{Head, Lane, Estimate, Job, Misfit, Other}
+use Rattle.map.specs.Records.{recordIn}
+use Rattle.model.specs.Bytes.{u16, u32, u16s}
+use Rattle.model.specs.Items as model
+
+-- what a body that begins at byte `at` says
+abbrev pub sizeAt : List ℕ → ℕ → declared.Size.Size
+sizeAt input at = record { places = u16 input (at + 0); arcs = u16 input (at + 2) }
+
+abbrev pub laneAt : List ℕ → ℕ → declared.Lane.Lane
+laneAt input at = record { from = u16 input (at + 0); to = u16 input (at + 2); cost = u16 input (at + 4) }
+
+abbrev pub estimateAt : List ℕ → ℕ → declared.Estimate.Estimate
+estimateAt input at = record { place = u16 input (at + 0); value = u32 input (at + 2) }
+
+-- a job's body has `len` bytes
+unfoldable pub jobAt : List ℕ → ℕ → ℕ → Item
+jobAt input at len =
+    let goals = u16 input (at + 6) in
+    cond (ltb len 8 || not (eqb len (8 + 2 * goals))) Misfit
+    (Job (record { start = u16 input (at + 0); allowance = u32 input (at + 2); goals = goals; «goals_at» = at + 8 }))
+
+unfoldable pub isMisfit : Item → Bool
+isMisfit (Head s) = false
+isMisfit (Lane l) = false
+isMisfit (Estimate e) = false
+isMisfit (Job j) = false
+isMisfit Misfit = true
+isMisfit Other = false
+
+-- the job of these fields
+unfoldable pub jobOf : List ℕ → declared.JobFields.JobFields → model.Job
+jobOf input j = record { start = j .start; allowance = j .allowance; goals = u16s (j .goals) input (j .«goals_at») }
+
+-- in the definitions' terms; a record that does not fit says nothing
+unfoldable pub meant : List ℕ → Item → model.Item
+meant input (Head s) = model.head (record { places = s .places; arcs = s .arcs })
+meant input (Lane l) = model.lane (record { from = l .from; to = l .to; charge = model.flat (l .cost) })
+meant input (Estimate e) = model.estimate (record { place = e .place; value = e .value })
+meant input (Job j) = model.job (jobOf input j)
+meant input Misfit = model.other
+meant input Other = model.other
+
+-- where the body ends, by what it says
+unfoldable pub endBy : declared.Record.Record → Item → ℕ
+endBy r (Head s) = r .start + 4
+endBy r (Lane l) = r .start + 6
+endBy r (Estimate e) = r .start + 6
+endBy r (Job j) = j .«goals_at» + 2 * j .goals
+endBy r Misfit = r .end
+endBy r Other = r .end
+
+abbrev pub EndsBy : declared.Record.Record → Item → Type 0
+EndsBy r i = endBy r i ≡ r .end
+
+-- the body of an arc or an estimate is as long as its kind says
+pub record EndsByKind (r : declared.Record.Record) : Type 0 where
+  pub arc : r .kind ≡ model.arcKind → r .start + 6 ≡ r .end
+  pub estimate : r .kind ≡ model.estimateKind → r .start + 6 ≡ r .end
+
+-- the record's body lies in the input
+pub record LiesIn (input : List ℕ) (r : declared.Record.Record) : Type 0 where
+  pub forward : r .start ≤ r .end
+  pub ends : r .end ≤ length input
+
+-- the record r of the input says i
+pub record Says (input : List ℕ) (r : declared.Record.Record) (i : Item) : Type 0 where
+  pub misfit : model.misfits (recordIn input r) ≡ isMisfit i
+  pub item : isMisfit i ≡ false → model.itemOf (recordIn input r) ≡ meant input i
+  pub ends : EndsBy r i

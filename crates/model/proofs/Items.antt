@@ -1,0 +1,66 @@
+-- Which item a record is, by its kind. Assumes nothing.
+use mathlib.Core.Path.{_≡_, refl}
+use mathlib.Core.Bool.{Bool, true, false, cond}
+use mathlib.Core.Option.{some}
+use mathlib.Core.Logic.{_≢_}
+use lib.Dec.{eqb}
+use borrow.Author.Tests.{eqb-true, eqb-false, ne-eqb}
+use Rattle.model.specs.Framing.{Record}
+use Rattle.model.specs.Items.{headKind, arcKind, estimateKind, jobKind, Lane, Item, head, lane, estimate, job, other}
+use Rattle.model.specs.Items.{headOf, laneOf, estimateOf, jobOf, itemOf, laneIn}
+use Rattle.model.proofs.Lists.{none-some}
+
+module _ (r : Record) where
+  pub data KindOf : Item → Type 0 where
+    is-head : r .kind ≡ headKind → KindOf (head (headOf (r .body)))
+    is-lane : r .kind ≡ arcKind → KindOf (lane (laneOf (r .body)))
+    is-estimate : r .kind ≡ estimateKind → KindOf (estimate (estimateOf (r .body)))
+    is-job : r .kind ≡ jobKind → KindOf (job (jobOf (r .body)))
+    is-other : r .kind ≢ headKind → r .kind ≢ arcKind → r .kind ≢ estimateKind → r .kind ≢ jobKind → KindOf other
+
+  pub kind-of : KindOf (itemOf r)
+  unfolding itemOf
+  kind-of = go (eqb (r .kind) headKind) (eqb (r .kind) arcKind) (eqb (r .kind) estimateKind) (eqb (r .kind) jobKind) refl refl refl refl
+    where
+      go : (a b c d : Bool) → eqb (r .kind) headKind ≡ a → eqb (r .kind) arcKind ≡ b → eqb (r .kind) estimateKind ≡ c → eqb (r .kind) jobKind ≡ d
+          → KindOf (cond a (head (headOf (r .body))) (cond b (lane (laneOf (r .body)))
+          (cond c (estimate (estimateOf (r .body))) (cond d (job (jobOf (r .body))) other))))
+      go true b c d p q s t = is-head (eqb-true (r .kind) headKind p)
+      go false true c d p q s t = is-lane (eqb-true (r .kind) arcKind q)
+      go false false true d p q s t = is-estimate (eqb-true (r .kind) estimateKind s)
+      go false false false true p q s t = is-job (eqb-true (r .kind) jobKind t)
+      go false false false false p q s t =
+          is-other (eqb-false (r .kind) headKind p) (eqb-false (r .kind) arcKind q) (eqb-false (r .kind) estimateKind s)
+          (eqb-false (r .kind) jobKind t)
+
+  pub head-item : r .kind ≡ headKind → itemOf r ≡ head (headOf (r .body))
+  unfolding itemOf
+  head-item e = rw e
+
+  pub lane-item : r .kind ≡ arcKind → itemOf r ≡ lane (laneOf (r .body))
+  unfolding itemOf
+  lane-item e = rw e
+
+  pub estimate-item : r .kind ≡ estimateKind → itemOf r ≡ estimate (estimateOf (r .body))
+  unfolding itemOf
+  estimate-item e = rw e
+
+  pub job-item : r .kind ≡ jobKind → itemOf r ≡ job (jobOf (r .body))
+  unfolding itemOf
+  job-item e = rw e
+
+  pub other-item : r .kind ≢ headKind → r .kind ≢ arcKind → r .kind ≢ estimateKind → r .kind ≢ jobKind → itemOf r ≡ other
+  unfolding itemOf
+  other-item a b c d = simp (ne-eqb _ _ a, ne-eqb _ _ b, ne-eqb _ _ c, ne-eqb _ _ d)
+
+  -- a lane is what the body says
+  pub lane-body : (l : Lane) → laneIn (itemOf r) ≡ some l → l ≡ laneOf (r .body)
+  unfolding laneIn
+  lane-body l e = go (itemOf r) kind-of e
+    where
+      go : (i : Item) → KindOf i → laneIn i ≡ some l → l ≡ laneOf (r .body)
+      go (head s) k e = none-some e
+      go (lane m) (is-lane q) e = cc
+      go (estimate s) k e = none-some e
+      go (job j) k e = none-some e
+      go other k e = none-some e

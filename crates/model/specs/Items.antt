@@ -1,0 +1,126 @@
+-- Document 01, "Records": what a record of each kind says. Kinds, fields and body lengths stand here and nowhere else.
+use mathlib.Core.Bool.{Bool, false, cond, not}
+use mathlib.Core.List.{List, map}
+use mathlib.Core.Option.{Option, none, some}
+use Prim.Native.Nat.{ℕ, _+_, _*_}
+use lib.Dec.{eqb}
+use lib.ListN.{length}
+use Rattle.model.specs.Bytes.{u16, u32, u16s}
+use Rattle.model.specs.Framing.{Record}
+
+abbrev pub headKind : ℕ
+headKind = 1
+
+abbrev pub arcKind : ℕ
+arcKind = 2
+
+abbrev pub estimateKind : ℕ
+estimateKind = 3
+
+abbrev pub jobKind : ℕ
+jobKind = 4
+
+-- head: places N, arcs M
+pub record Size : Type 0 where
+  pub places : ℕ
+  pub arcs : ℕ
+
+-- What a lane's record says of its cost: the cost itself.
+pub data Charge : Type 0 where
+  flat : (cost : ℕ) → Charge
+
+-- An arc record. What it says is kept apart from the arc that it becomes under a table of factors.
+pub record Lane : Type 0 where
+  pub from : ℕ
+  pub to : ℕ
+  pub charge : Charge
+
+pub record Estimate : Type 0 where
+  pub place : ℕ
+  pub value : ℕ
+
+pub record Job : Type 0 where
+  pub start : ℕ
+  pub allowance : ℕ
+  pub goals : List ℕ
+
+-- what a record says, by its kind
+pub data Item : Type 0 where
+  head : Size → Item
+  lane : Lane → Item
+  estimate : Estimate → Item
+  job : Job → Item
+  -- a kind that document 01 does not have
+  other : Item
+
+-- head: places N (2 bytes), arcs M (2)
+unfoldable pub headOf : List ℕ → Size
+headOf b = record { places = u16 b 0; arcs = u16 b 2 }
+
+-- arc: from (2), to (2), cost (2)
+unfoldable pub laneOf : List ℕ → Lane
+laneOf b = record { from = u16 b 0; to = u16 b 2; charge = flat (u16 b 4) }
+
+-- estimate: place (2), estimate (4)
+unfoldable pub estimateOf : List ℕ → Estimate
+estimateOf b = record { place = u16 b 0; value = u32 b 2 }
+
+-- job: start (2), allowance (4), goal count k (2), k goals (2 each)
+unfoldable pub jobOf : List ℕ → Job
+jobOf b = record { start = u16 b 0; allowance = u32 b 2; goals = u16s (u16 b 6) b 8 }
+
+unfoldable pub itemOf : Record → Item
+itemOf r =
+    let b = r .body in
+    cond (eqb (r .kind) headKind) (head (headOf b))
+    (cond (eqb (r .kind) arcKind) (lane (laneOf b))
+    (cond (eqb (r .kind) estimateKind) (estimate (estimateOf b))
+    (cond (eqb (r .kind) jobKind) (job (jobOf b)) other)))
+
+-- How many bytes the body of a record has that says this. "A job needs 8 bytes or more, and exactly 8 + 2 × k."
+unfoldable pub bodyLength : Item → Option ℕ
+bodyLength (head s) = some 4
+bodyLength (lane l) = some 6
+bodyLength (estimate e) = some 6
+bodyLength (job j) = some (8 + 2 * length (j .goals))
+bodyLength other = none
+
+unfoldable pub otherThan : Option ℕ → ℕ → Bool
+otherThan none n = false
+otherThan (some m) n = not (eqb n m)
+
+-- the record's body has a length that its kind doesn't have
+unfoldable pub misfits : Record → Bool
+misfits r = otherThan (bodyLength (itemOf r)) (length (r .body))
+
+unfoldable pub items : List Record → List Item
+items rs = map itemOf rs
+
+-- what an item says, where it is of one kind
+unfoldable pub sizeIn : Item → Option Size
+sizeIn (head s) = some s
+sizeIn (lane l) = none
+sizeIn (estimate e) = none
+sizeIn (job j) = none
+sizeIn other = none
+
+unfoldable pub laneIn : Item → Option Lane
+laneIn (head s) = none
+laneIn (lane l) = some l
+laneIn (estimate e) = none
+laneIn (job j) = none
+laneIn other = none
+
+unfoldable pub estimateIn : Item → Option Estimate
+estimateIn (head s) = none
+estimateIn (lane l) = none
+estimateIn (estimate e) = some e
+estimateIn (job j) = none
+estimateIn other = none
+
+unfoldable pub jobIn : Item → Option Job
+jobIn (head s) = none
+jobIn (lane l) = none
+jobIn (estimate e) = none
+jobIn (job j) = some j
+jobIn other = none

@@ -1,0 +1,13 @@
+-- Sums of the numbers that a function gives, or that stand in a list.
+use mathlib.Core.List.{List}
+use Prim.Native.Nat.{ℕ, zero, suc, _+_}
+use lib.ListN.{getD}
+
+-- the sum of f at the numbers below k
+unfoldable pub sumBelow : (ℕ → ℕ) → ℕ → ℕ
+sumBelow f zero = 0
+sumBelow f (suc k) = sumBelow f k + f k
+
+-- the sum of the first k numbers of a list
+abbrev pub sumTo : List ℕ → ℕ → ℕ
+sumTo xs k = sumBelow (λ i. getD xs i 0) k
