@@ -50,15 +50,18 @@ withLabel w v d = set w v d
 abbrev pub withParent : ℕ → List ℕ → ℕ → ℕ → List ℕ
 withParent n w v u = set w (parentsAt n + v) u
 
--- An arc in one word: its end, and its cost, which is below 65,536.
+-- An arc in one word: its end, and its cost. Both are below this number.
+abbrev pub partEnd : ℕ
+partEnd = 65536
+
 abbrev pub arcEnd : ℕ → ℕ
-arcEnd x = x / 65536
+arcEnd x = x / partEnd
 
 abbrev pub arcCost : ℕ → ℕ
-arcCost x = x % 65536
+arcCost x = x % partEnd
 
 abbrev pub wordOfArc : ℕ → ℕ → ℕ
-wordOfArc to cost = 65536 * to + cost
+wordOfArc to cost = partEnd * to + cost
 
 -- v is one of n places, whose regions the words have
 pub record HasPlace (n v : ℕ) (w : List ℕ) : Type 0 where

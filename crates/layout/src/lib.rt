@@ -7,7 +7,7 @@ ghost use lib.Dec.{eqb};
 ghost use lib.ListN.{length};
 ghost use Rattle.layout.specs.Regions.{openAt, parentsAt, endsAt, estimatesAt, goalsAt, arcsAt};
 ghost use Rattle.layout.specs.Regions.{labelWord, parentWord, estimateWord, goalWord, arcWord, withLabel, withParent};
-ghost use Rattle.layout.specs.Regions.{arcEnd, arcCost, wordOfArc, HasPlace, HasArc};
+ghost use Rattle.layout.specs.Regions.{partEnd, arcEnd, arcCost, wordOfArc, HasPlace, HasArc};
 ghost use Rattle.layout.specs.Map.{rowStart, rowEnd};
 ghost use Rattle.layout.specs.Labels.{NoLabels, NoParents, listedAt};
 ghost use Rattle.model.specs.Limits.{maxPlaces};
@@ -168,7 +168,7 @@ pub fn arc_cost(word: u32) -> u32
 }
 
 pub fn arc_word(to: u32, cost: u32) -> u32
-    requires { ⌜ (to < 65536) × (cost < 65536) ⌝ }
+    requires { ⌜ (to < partEnd) × (cost < partEnd) ⌝ }
     ensures { λ r. ⌜ r ≡ wordOfArc to cost ⌝ }
 {
     END * to + cost

@@ -7,20 +7,47 @@ use mathlib.Core.Option.{some}
 use Prim.Native.Nat.{ℕ, _+_, _-_, _*_, _≤_}
 use native.Mathlib.Omega.{arith}
 use lib.Dec.{ltb, eqb}
-use lib.ListN.{length, length-take, length-drop}
+use lib.ListN.{length, drop, length-take, length-drop}
 use borrow.Author.Tests.{eq-eqb, ne-eqb, eqb-true, eqb-false, ltb-true, ltb-false}
 use Rattle.map.specs.declared.record as declared
 use Rattle.map.specs.declared.record.Record.{Record}
 use Rattle.map.specs.declared.record.Item.{Item}
 use Rattle.map.specs.declared.record.Item.the-variants.{Head, Lane, Estimate, Job, Misfit, Other}
 use Rattle.map.specs.Records.{recordIn}
-use Rattle.map.specs.Items.{sizeAt, laneAt, estimateAt, jobAt, isMisfit, jobOf, meant, endBy, LiesIn, Says}
-use Rattle.map.proofs.Parts.{u16-part, u32-part, u16s-part}
+use Rattle.map.specs.Items.{sizeAt, costIn, laneAt, estimateAt, jobAt, isMisfit, jobOf, meant, endBy, LiesIn, Says}
+use Rattle.map.proofs.Parts.{u16-drop, u32-drop, u16-part, u32-part, u16s-part}
 use Rattle.model.specs.Bytes.{u16, u32}
 use Rattle.model.specs.Framing as framing
 use Rattle.model.specs.Items as model
 use Rattle.model.proofs.Bytes.{u16s-length}
 use Rattle.model.proofs.Items.{head-item, lane-item, estimate-item, job-item, other-item}
+
+-- the fields of a body that begins at byte `at`, in the input
+module _ (input : List ℕ) (at : ℕ) where
+  pub size-at : sizeAt input at ≡ record { places = u16 input (at + 0); arcs = u16 input (at + 2) }
+  unfolding sizeAt model.headOf
+  size-at = rw (u16-drop at input 0 (at + 0) refl, u16-drop at input 2 (at + 2) refl)
+
+  pub lane-at : laneAt input at ≡ record { from = u16 input (at + 0); to = u16 input (at + 2); cost = u16 input (at + 4) }
+  unfolding laneAt costIn model.laneOf
+  lane-at = rw (u16-drop at input 0 (at + 0) refl, u16-drop at input 2 (at + 2) refl, u16-drop at input 4 (at + 4) refl)
+
+  pub estimate-at : estimateAt input at ≡ record { place = u16 input (at + 0); value = u32 input (at + 2) }
+  unfolding estimateAt model.estimateOf
+  estimate-at = rw (u16-drop at input 0 (at + 0) refl, u32-drop at input 2 (at + 2) refl)
+
+  pub job-at : (len : ℕ)
+      → jobAt input at len
+      ≡ cond (ltb len 8 || not (eqb len (8 + 2 * u16 input (at + 6)))) Misfit
+      (Job (record { start = u16 input (at + 0); allowance = u32 input (at + 2); goals = u16 input (at + 6); «goals_at» = at + 8 }))
+  unfolding jobAt model.jobOf
+  job-at len =
+      rw (
+        u16s-length (u16 (drop at input) 6) (drop at input) 8,
+        u16-drop at input 0 (at + 0) refl,
+        u32-drop at input 2 (at + 2) refl,
+        u16-drop at input 6 (at + 6) refl,
+      )
 
 module _ (input : List ℕ) (r : Record) (lies : LiesIn input r) where
   abbrev whole : framing.Record
@@ -59,7 +86,7 @@ module _ (input : List ℕ) (r : Record) (lies : LiesIn input r) where
         let field = u16-part input (r .start) len in
         let places = field 0 (r .start + 0) (omega arith) refl in
         let arcs = field 2 (r .start + 2) (omega arith) refl in
-        fitting-says (Head (sizeAt input (r .start))) 4 (head-item whole kind ∙ rw (places, arcs)) refl h refl (omega arith)
+        rw (size-at input (r .start)) (fitting-says (Head _) 4 (head-item whole kind ∙ rw (places, arcs)) refl h refl (omega arith))
 
   -- an arc of six
   module _ (kind : r .kind ≡ model.arcKind) where
@@ -74,7 +101,7 @@ module _ (input : List ℕ) (r : Record) (lies : LiesIn input r) where
         let from = field 0 (r .start + 0) (omega arith) refl in
         let to = field 2 (r .start + 2) (omega arith) refl in
         let cost = field 4 (r .start + 4) (omega arith) refl in
-        fitting-says (Lane (laneAt input (r .start))) 6 (lane-item whole kind ∙ rw (from, to, cost)) refl h refl (omega arith)
+        rw (lane-at input (r .start)) (fitting-says (Lane _) 6 (lane-item whole kind ∙ rw (from, to, cost)) refl h refl (omega arith))
 
   -- an estimate of six
   module _ (kind : r .kind ≡ model.estimateKind) where
@@ -87,7 +114,7 @@ module _ (input : List ℕ) (r : Record) (lies : LiesIn input r) where
     estimate-says h =
         let place = u16-part input (r .start) len 0 (r .start + 0) (omega arith) refl in
         let value = u32-part input (r .start) len 2 (r .start + 2) (omega arith) refl in
-        fitting-says (Estimate (estimateAt input (r .start))) 6 (estimate-item whole kind ∙ rw (place, value)) refl h refl (omega arith)
+        rw (estimate-at input (r .start)) (fitting-says (Estimate _) 6 (estimate-item whole kind ∙ rw (place, value)) refl h refl (omega arith))
 
   -- a job of eight, and of two more for each goal
   module _ (kind : r .kind ≡ model.jobKind) where
@@ -116,8 +143,7 @@ module _ (input : List ℕ) (r : Record) (lies : LiesIn input r) where
         fitting-says (Job fields) len said size refl refl (rw are (omega (arith, lies .forward)))
 
     pub job-says : Says input r (jobAt input (r .start) len)
-    unfolding jobAt
-    job-says = go (ltb len 8) (eqb len (8 + 2 * u16 input (r .start + 6))) refl refl
+    job-says = rw (job-at input (r .start) len) (go (ltb len 8) (eqb len (8 + 2 * u16 input (r .start + 6))) refl refl)
       where
         fields : declared.JobFields.JobFields
         fields = record {

@@ -13,6 +13,10 @@ module _ (n : ℕ) (b : List ℕ) where
   unfolding u16
   u16-drop i j e = rw (e, getD-drop n b i 0, getD-drop n b (i + 1) 0, add-assoc)
 
+  pub u32-drop : (i j : ℕ) → j ≡ n + i → u32 (drop n b) i ≡ u32 b j
+  unfolding u32
+  u32-drop i j e = rw (u16-drop i j e, u16-drop (i + 2) (j + 2) (omega arith))
+
   u16-take : (i : ℕ) → i + 1 < n → u16 (take n b) i ≡ u16 b i
   unfolding u16
   u16-take i h = rw (getD-take n b i 0 (omega arith), getD-take n b (i + 1) 0 h)

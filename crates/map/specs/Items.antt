@@ -4,30 +4,35 @@ use mathlib.Core.Bool.{Bool, true, false, cond, _||_, not}
 use mathlib.Core.List.{List}
 use Prim.Native.Nat.{ℕ, _+_, _*_, _≤_}
 use lib.Dec.{ltb, eqb}
-use lib.ListN.{length}
+use lib.ListN.{length, drop}
 use Rattle.map.specs.declared.record as declared
 use Rattle.map.specs.declared.record.Item.{Item}
 use Rattle.map.specs.declared.record.Item.the-variants.{Head, Lane, Estimate, Job, Misfit, Other}
 use Rattle.map.specs.Records.{recordIn}
-use Rattle.model.specs.Bytes.{u16, u32, u16s}
+use Rattle.model.specs.Bytes.{u16s}
 use Rattle.model.specs.Items as model
 
--- what a body that begins at byte `at` says
-abbrev pub sizeAt : List ℕ → ℕ → declared.Size.Size
-sizeAt input at = record { places = u16 input (at + 0); arcs = u16 input (at + 2) }
+-- what a body that begins at byte `at` says, in the code's types
+unfoldable pub sizeAt : List ℕ → ℕ → declared.Size.Size
+sizeAt input at = let s = model.headOf (drop at input) in record { places = s .places; arcs = s .arcs }
 
-abbrev pub laneAt : List ℕ → ℕ → declared.Lane.Lane
-laneAt input at = record { from = u16 input (at + 0); to = u16 input (at + 2); cost = u16 input (at + 4) }
+-- a lane's charge, as long as there is but one kind of lane
+unfoldable pub costIn : model.Charge → ℕ
+costIn (model.flat cost) = cost
 
-abbrev pub estimateAt : List ℕ → ℕ → declared.Estimate.Estimate
-estimateAt input at = record { place = u16 input (at + 0); value = u32 input (at + 2) }
+unfoldable pub laneAt : List ℕ → ℕ → declared.Lane.Lane
+laneAt input at = let l = model.laneOf (drop at input) in record { from = l .from; to = l .to; cost = costIn (l .charge) }
+
+unfoldable pub estimateAt : List ℕ → ℕ → declared.Estimate.Estimate
+estimateAt input at = let e = model.estimateOf (drop at input) in record { place = e .place; value = e .value }
 
 -- a job's body has `len` bytes
 unfoldable pub jobAt : List ℕ → ℕ → ℕ → Item
 jobAt input at len =
-    let goals = u16 input (at + 6) in
-    cond (ltb len 8 || not (eqb len (8 + 2 * goals))) Misfit
-    (Job (record { start = u16 input (at + 0); allowance = u32 input (at + 2); goals = goals; «goals_at» = at + 8 }))
+    let j = model.jobOf (drop at input) in
+    let goals = length (j .goals) in
+    cond (ltb len model.jobBytes || not (eqb len (model.jobBytes + 2 * goals))) Misfit
+    (Job (record { start = j .start; allowance = j .allowance; goals = goals; «goals_at» = at + model.jobBytes }))
 
 unfoldable pub isMisfit : Item → Bool
 isMisfit (Head s) = false
@@ -52,9 +57,9 @@ meant input Other = model.other
 
 -- where the body ends, by what it says
 unfoldable pub endBy : declared.Record.Record → Item → ℕ
-endBy r (Head s) = r .start + 4
-endBy r (Lane l) = r .start + 6
-endBy r (Estimate e) = r .start + 6
+endBy r (Head s) = r .start + model.headBytes
+endBy r (Lane l) = r .start + model.arcBytes
+endBy r (Estimate e) = r .start + model.estimateBytes
 endBy r (Job j) = j .«goals_at» + 2 * j .goals
 endBy r Misfit = r .end
 endBy r Other = r .end
@@ -64,8 +69,8 @@ EndsBy r i = endBy r i ≡ r .end
 
 -- the body of an arc or an estimate is as long as its kind says
 pub record EndsByKind (r : declared.Record.Record) : Type 0 where
-  pub arc : r .kind ≡ model.arcKind → r .start + 6 ≡ r .end
-  pub estimate : r .kind ≡ model.estimateKind → r .start + 6 ≡ r .end
+  pub arc : r .kind ≡ model.arcKind → r .start + model.arcBytes ≡ r .end
+  pub estimate : r .kind ≡ model.estimateKind → r .start + model.estimateBytes ≡ r .end
 
 -- the record's body lies in the input
 pub record LiesIn (input : List ℕ) (r : declared.Record.Record) : Type 0 where

@@ -20,6 +20,19 @@ estimateKind = 3
 abbrev pub jobKind : ℕ
 jobKind = 4
 
+-- how many bytes a body has; a job's, before its goals
+abbrev pub headBytes : ℕ
+headBytes = 4
+
+abbrev pub arcBytes : ℕ
+arcBytes = 6
+
+abbrev pub estimateBytes : ℕ
+estimateBytes = 6
+
+abbrev pub jobBytes : ℕ
+jobBytes = 8
+
 -- head: places N, arcs M
 pub record Size : Type 0 where
   pub places : ℕ
@@ -67,7 +80,7 @@ estimateOf b = record { place = u16 b 0; value = u32 b 2 }
 
 -- job: start (2), allowance (4), goal count k (2), k goals (2 each)
 unfoldable pub jobOf : List ℕ → Job
-jobOf b = record { start = u16 b 0; allowance = u32 b 2; goals = u16s (u16 b 6) b 8 }
+jobOf b = record { start = u16 b 0; allowance = u32 b 2; goals = u16s (u16 b 6) b jobBytes }
 
 unfoldable pub itemOf : Record → Item
 itemOf r =
@@ -79,10 +92,10 @@ itemOf r =
 
 -- How many bytes the body of a record has that says this. "A job needs 8 bytes or more, and exactly 8 + 2 × k."
 unfoldable pub bodyLength : Item → Option ℕ
-bodyLength (head s) = some 4
-bodyLength (lane l) = some 6
-bodyLength (estimate e) = some 6
-bodyLength (job j) = some (8 + 2 * length (j .goals))
+bodyLength (head s) = some headBytes
+bodyLength (lane l) = some arcBytes
+bodyLength (estimate e) = some estimateBytes
+bodyLength (job j) = some (jobBytes + 2 * length (j .goals))
 bodyLength other = none
 
 unfoldable pub otherThan : Option ℕ → ℕ → Bool

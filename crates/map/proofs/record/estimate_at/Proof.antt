@@ -1,6 +1,7 @@
 -- `record::estimate_at` meets its contract: the fields are what the calls read. Assumes nothing.
-use mathlib.Core.Path.{_∙_}
+use mathlib.Core.Path.{sym, _∙_}
 use borrow.Author.Needs.{needs}
+use Rattle.map.proofs.Items.{estimate-at}
 use Rattle.map.proofs.record.estimate_at.Statement.{statement}
 use Rattle.map.proofs.record.estimate_at.Tie as tie
 
@@ -20,7 +21,7 @@ u32-at-requires : tie.Need-u32-at-requires
 u32-at-requires c κs = search needs
 
 returns : tie.Need-returns
-returns c = rw (c .before .index .ensures .0 ∙ c .before .before .u16-at .ensures, c .u32-at .ensures)
+returns c = rw (c .before .index .ensures .0 ∙ c .before .before .u16-at .ensures, c .u32-at .ensures) (sym (estimate-at _ _))
 
 pub estimate-at-spec : {M : Type 1} → statement M
 estimate-at-spec =

@@ -1,6 +1,7 @@
 -- `record::head_at` meets its contract: the fields are what the calls read. Assumes nothing.
-use mathlib.Core.Path.{_∙_}
+use mathlib.Core.Path.{sym, _∙_}
 use borrow.Author.Needs.{needs}
+use Rattle.map.proofs.Items.{size-at}
 use Rattle.map.proofs.record.head_at.Statement.{statement}
 use Rattle.map.proofs.record.head_at.Tie as tie
 
@@ -25,7 +26,7 @@ index-requires-2 c κs = search needs
 returns : tie.Need-returns
 returns c =
     let places = c .before .before .index .ensures .0 ∙ c .before .before .before .u16-at .ensures in
-    rw (places, c .index2 .ensures .0 ∙ c .before .u16-at2 .ensures)
+    rw (places, c .index2 .ensures .0 ∙ c .before .u16-at2 .ensures) (sym (size-at _ _))
 
 pub head-at-spec : {M : Type 1} → statement M
 head-at-spec =
