@@ -25,14 +25,14 @@ use Rattle.model.specs.Framing.{frame}
 use Rattle.model.specs.Items as model
 use Rattle.model.specs.Lists.{any}
 use Rattle.model.specs.Refusals.{jobOutsideMap, wrongGoals, goalEstimate, jobRows, firstThatHolds, inputRefusal}
-use Rattle.model.specs.Stated.{Stated, stated, lookup}
+use Rattle.model.specs.Stated.{Stated, statedIn, lookup}
 use Rattle.model.proofs.Acceptance.{states-growth}
 use Rattle.model.proofs.Bytes.{u16s-length}
 use Rattle.model.proofs.Lists.{neither, any-false}
 
 module _ (input marks : List ℕ) (s : Survey) (j : OneJob input marks s) where
   abbrev st : Stated
-  st = stated (frame input .records)
+  st = statedIn input
 
   abbrev goals : List ℕ
   goals = u16s (s .job .goals) input (s .job .«goals_at»)

@@ -23,7 +23,7 @@ use Rattle.model.specs.Items.{items}
 use Rattle.model.specs.Limits.{maxPlaces, maxArcs}
 use Rattle.model.specs.Lists.{any}
 use Rattle.model.specs.Refusals.{Row, wrongSize, wrongJob, formRows, sizeRows, mapRows, jobRows, firstThatHolds, firstOf, inputRefusal}
-use Rattle.model.specs.Stated.{Stated, stated}
+use Rattle.model.specs.Stated.{Stated, stated, statedIn}
 use Rattle.model.proofs.Lists.{neither}
 use Rattle.model.proofs.Rows.{input-groups}
 
@@ -47,10 +47,10 @@ map-above s = number-from noNumber 6 (mapRows s) refl (omega arith)
 -- 1 to 4
 module _ (input marks : List ℕ) (s : Survey) (v : Surveyed input marks s) where
   abbrev rest : List Row
-  rest = mapRows (placed (s .places) (stated (frame input .records)))
+  rest = mapRows (placed (s .places) (statedIn input))
 
   above : 5 ≤ numberOr noNumber rest
-  above = omega (arith, map-above (placed (s .places) (stated (frame input .records))))
+  above = omega (arith, map-above (placed (s .places) (statedIn input)))
 
   some-number : 1 ≤ s .number
   unfolding formRows mapRows any

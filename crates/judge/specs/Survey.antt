@@ -18,7 +18,7 @@ use Rattle.model.specs.Items as model
 use Rattle.model.specs.Limits.{maxPlaces, maxEstimate}
 use Rattle.model.specs.Lists.{any, isGiven, filterMap}
 use Rattle.model.specs.Refusals.{Row, row, unknownKind, wrongLength, endsWithJob, formRows, mapRows, firstThatHolds}
-use Rattle.model.specs.Stated.{Stated, noSize, noJob, statedBy, stated, lookup}
+use Rattle.model.specs.Stated.{Stated, noSize, noJob, statedBy, statedIn, lookup}
 
 -- ---- What a record is given by itself
 
@@ -231,19 +231,22 @@ atEnd s =
       job = s .job;
     }
 
+-- the mark of each of n places says whether its estimate is above 0
+abbrev pub MarksTell : (input marks : List ℕ) → ℕ → Type 0
+MarksTell input marks n = (v : ℕ) → v < n → eqb (getD marks v 0) 2 ≡ not (eqb (lookup 0 (statedIn input .estimates) v) 0)
+
 -- what a survey states of an input of which none of 1 to 4 holds
 pub record Stating (input : List ℕ) (marks : List ℕ) (s : Survey) : Type 0 where
-  pub places : s .places ≡ fewPlaces (stated (frame input .records) .size .places)
-  pub arcs : s .arcs ≡ stated (frame input .records) .size .arcs
-  pub lanes : s .lanes ≡ length (stated (frame input .records) .lanes)
+  pub places : s .places ≡ fewPlaces (statedIn input .size .places)
+  pub arcs : s .arcs ≡ statedIn input .size .arcs
+  pub lanes : s .lanes ≡ length (statedIn input .lanes)
   pub jobs : s .jobs ≡ length (filterMap model.jobIn (model.items (frame input .records)))
   pub job-last : s .«job_last» ≡ endsWithJob (model.items (frame input .records))
-  pub job : s .jobs ≡ 1 → jobOf input (s .job) ≡ stated (frame input .records) .job
+  pub job : s .jobs ≡ 1 → jobOf input (s .job) ≡ statedIn input .job
   pub goals-end : s .«job_last» ≡ true → s .job .«goals_at» + 2 * s .job .goals ≡ length input
-  pub estimated : (v : ℕ) → v < s .places
-      → eqb (getD marks v 0) 2 ≡ not (eqb (lookup 0 (stated (frame input .records) .estimates) v) 0)
+  pub estimated : MarksTell input marks (s .places)
 
 -- the survey of a whole input
 pub record Surveyed (input : List ℕ) (marks : List ℕ) (s : Survey) : Type 0 where
-  pub number : s .number ≡ numberOr noNumber (formRows (frame input) ++ mapRows (placed (s .places) (stated (frame input .records))))
+  pub number : s .number ≡ numberOr noNumber (formRows (frame input) ++ mapRows (placed (s .places) (statedIn input)))
   pub states : firstThatHolds (formRows (frame input)) ≡ 0 → Stating input marks s

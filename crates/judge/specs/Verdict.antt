@@ -1,19 +1,19 @@
 -- How the conditions are looked for: group by group, each group as soon as what it reads is known to stand there.
 use mathlib.Core.Path.{_≡_}
-use mathlib.Core.Bool.{Bool, false, cond, not, _||_}
+use mathlib.Core.Bool.{Bool, false, cond, _||_}
 use mathlib.Core.List.{List}
-use Prim.Native.Nat.{ℕ, _+_, _*_, _≤_, _<_}
-use lib.Dec.{ltb, eqb}
-use lib.ListN.{length, getD}
+use Prim.Native.Nat.{ℕ, _+_, _*_, _≤_}
+use lib.Dec.{ltb}
+use lib.ListN.{length}
 use Rattle.judge.specs.declared.survey.Survey.{Survey}
 use Rattle.judge.specs.Numbers.{noNumber, numberOr}
-use Rattle.judge.specs.Survey.{placed, Stating}
+use Rattle.judge.specs.Survey.{placed, MarksTell, Stating}
 use Rattle.map.specs.Items.{jobOf}
 use Rattle.model.specs.Framing.{frame}
 use Rattle.model.specs.Items.{items}
 use Rattle.model.specs.Limits.{maxPlaces, maxGoals}
 use Rattle.model.specs.Refusals.{wrongJob, formRows, mapRows, jobRows, firstThatHolds, inputRefusal}
-use Rattle.model.specs.Stated.{stated, lookup}
+use Rattle.model.specs.Stated.{statedIn}
 
 abbrev pub goalsWrong : ℕ → Bool → Bool
 goalsWrong k falls = ltb k 1 || ltb maxGoals k || falls
@@ -24,17 +24,16 @@ goalsNumber outside wrong estimated = cond outside 11 (cond wrong 12 (cond estim
 -- none of 1 to 4 holds
 pub record Formed (input : List ℕ) (marks : List ℕ) (s : Survey) : Type 0 where
   pub form : firstThatHolds (formRows (frame input)) ≡ 0
-  pub number : s .number ≡ numberOr noNumber (mapRows (placed (s .places) (stated (frame input .records))))
+  pub number : s .number ≡ numberOr noNumber (mapRows (placed (s .places) (statedIn input)))
   pub states : Stating input marks s
 
 -- none of 1 to 10 holds: the one job is the last record
 pub record OneJob (input : List ℕ) (marks : List ℕ) (s : Survey) : Type 0 where
-  pub places : s .places ≡ stated (frame input .records) .size .places
+  pub places : s .places ≡ statedIn input .size .places
   pub few : s .places ≤ maxPlaces
-  pub arcs : s .arcs ≡ stated (frame input .records) .size .arcs
-  pub job : jobOf input (s .job) ≡ stated (frame input .records) .job
+  pub arcs : s .arcs ≡ statedIn input .size .arcs
+  pub job : jobOf input (s .job) ≡ statedIn input .job
   pub goals-end : s .job .«goals_at» + 2 * s .job .goals ≡ length input
-  pub estimated : (v : ℕ) → v < s .places
-      → eqb (getD marks v 0) 2 ≡ not (eqb (lookup 0 (stated (frame input .records) .estimates) v) 0)
+  pub estimated : MarksTell input marks (s .places)
   pub right : wrongJob (items (frame input .records)) ≡ false
-  pub number : inputRefusal (frame input) ≡ firstThatHolds (jobRows (items (frame input .records)) (stated (frame input .records)))
+  pub number : inputRefusal (frame input) ≡ firstThatHolds (jobRows (items (frame input .records)) (statedIn input))

@@ -38,8 +38,8 @@ module _ (input : List ℕ) (at : ℕ) where
 
   pub job-at : (len : ℕ)
       → jobAt input at len
-      ≡ cond (ltb len 8 || not (eqb len (8 + 2 * u16 input (at + 6)))) Misfit
-      (Job (record { start = u16 input (at + 0); allowance = u32 input (at + 2); goals = u16 input (at + 6); «goals_at» = at + 8 }))
+      ≡ cond (ltb len model.jobBytes || not (eqb len (model.jobBytes + 2 * u16 input (at + 6)))) Misfit
+      (Job (record { start = u16 input (at + 0); allowance = u32 input (at + 2); goals = u16 input (at + 6); «goals_at» = at + model.jobBytes }))
   unfolding jobAt model.jobOf
   job-at len =
       rw (
@@ -76,52 +76,52 @@ module _ (input : List ℕ) (r : Record) (lies : LiesIn input r) where
 
   -- a head of four bytes
   module _ (kind : r .kind ≡ model.headKind) where
-    pub head-misfit : len ≢ 4 → Says input r Misfit
+    pub head-misfit : len ≢ model.headBytes → Says input r Misfit
     unfolding model.bodyLength
-    head-misfit h = misfit-says _ 4 (head-item whole kind) refl h
+    head-misfit h = misfit-says _ _ (head-item whole kind) refl h
 
-    pub head-says : len ≡ 4 → Says input r (Head (sizeAt input (r .start)))
+    pub head-says : len ≡ model.headBytes → Says input r (Head (sizeAt input (r .start)))
     unfolding model.headOf model.bodyLength meant isMisfit endBy
     head-says h =
         let field = u16-part input (r .start) len in
         let places = field 0 (r .start + 0) (omega arith) refl in
         let arcs = field 2 (r .start + 2) (omega arith) refl in
-        rw (size-at input (r .start)) (fitting-says (Head _) 4 (head-item whole kind ∙ rw (places, arcs)) refl h refl (omega arith))
+        rw (size-at input (r .start)) (fitting-says (Head _) _ (head-item whole kind ∙ rw (places, arcs)) refl h refl (omega arith))
 
   -- an arc of six
   module _ (kind : r .kind ≡ model.arcKind) where
-    pub lane-misfit : len ≢ 6 → Says input r Misfit
+    pub lane-misfit : len ≢ model.arcBytes → Says input r Misfit
     unfolding model.bodyLength
-    lane-misfit h = misfit-says _ 6 (lane-item whole kind) refl h
+    lane-misfit h = misfit-says _ _ (lane-item whole kind) refl h
 
-    pub lane-says : len ≡ 6 → Says input r (Lane (laneAt input (r .start)))
+    pub lane-says : len ≡ model.arcBytes → Says input r (Lane (laneAt input (r .start)))
     unfolding model.laneOf model.bodyLength meant isMisfit endBy
     lane-says h =
         let field = u16-part input (r .start) len in
         let from = field 0 (r .start + 0) (omega arith) refl in
         let to = field 2 (r .start + 2) (omega arith) refl in
         let cost = field 4 (r .start + 4) (omega arith) refl in
-        rw (lane-at input (r .start)) (fitting-says (Lane _) 6 (lane-item whole kind ∙ rw (from, to, cost)) refl h refl (omega arith))
+        rw (lane-at input (r .start)) (fitting-says (Lane _) _ (lane-item whole kind ∙ rw (from, to, cost)) refl h refl (omega arith))
 
   -- an estimate of six
   module _ (kind : r .kind ≡ model.estimateKind) where
-    pub estimate-misfit : len ≢ 6 → Says input r Misfit
+    pub estimate-misfit : len ≢ model.estimateBytes → Says input r Misfit
     unfolding model.bodyLength
-    estimate-misfit h = misfit-says _ 6 (estimate-item whole kind) refl h
+    estimate-misfit h = misfit-says _ _ (estimate-item whole kind) refl h
 
-    pub estimate-says : len ≡ 6 → Says input r (Estimate (estimateAt input (r .start)))
+    pub estimate-says : len ≡ model.estimateBytes → Says input r (Estimate (estimateAt input (r .start)))
     unfolding model.estimateOf model.bodyLength meant isMisfit endBy
     estimate-says h =
         let place = u16-part input (r .start) len 0 (r .start + 0) (omega arith) refl in
         let value = u32-part input (r .start) len 2 (r .start + 2) (omega arith) refl in
-        rw (estimate-at input (r .start)) (fitting-says (Estimate _) 6 (estimate-item whole kind ∙ rw (place, value)) refl h refl (omega arith))
+        rw (estimate-at input (r .start)) (fitting-says (Estimate _) _ (estimate-item whole kind ∙ rw (place, value)) refl h refl (omega arith))
 
   -- a job of eight, and of two more for each goal
   module _ (kind : r .kind ≡ model.jobKind) where
-    goal-count : 8 ≤ len → u16 (whole .body) 6 ≡ u16 input (r .start + 6)
+    goal-count : model.jobBytes ≤ len → u16 (whole .body) 6 ≡ u16 input (r .start + 6)
     goal-count h = u16-part input (r .start) len 6 (r .start + 6) (omega arith) refl
 
-    job-length : model.bodyLength (model.job (model.jobOf (whole .body))) ≡ some (8 + 2 * u16 (whole .body) 6)
+    job-length : model.bodyLength (model.job (model.jobOf (whole .body))) ≡ some (model.jobBytes + 2 * u16 (whole .body) 6)
     unfolding model.bodyLength model.jobOf
     job-length = rw u16s-length
 
@@ -129,8 +129,8 @@ module _ (input : List ℕ) (r : Record) (lies : LiesIn input r) where
       start = u16 input (r .start + 0);
       allowance = u32 input (r .start + 2);
       goals = u16 input (r .start + 6);
-      «goals_at» = r .start + 8;
-    } → 8 ≤ len → len ≡ 8 + 2 * u16 input (r .start + 6) → Says input r (Job fields)
+      «goals_at» = r .start + model.jobBytes;
+    } → model.jobBytes ≤ len → len ≡ model.jobBytes + 2 * u16 input (r .start + 6) → Says input r (Job fields)
     unfolding model.jobOf model.bodyLength meant jobOf isMisfit endBy
     job-fits fields are long exact =
         let start = u16-part input (r .start) len 0 (r .start + 0) (omega arith) refl in
@@ -143,22 +143,23 @@ module _ (input : List ℕ) (r : Record) (lies : LiesIn input r) where
         fitting-says (Job fields) len said size refl refl (rw are (omega (arith, lies .forward)))
 
     pub job-says : Says input r (jobAt input (r .start) len)
-    job-says = rw (job-at input (r .start) len) (go (ltb len 8) (eqb len (8 + 2 * u16 input (r .start + 6))) refl refl)
+    job-says = rw (job-at input (r .start) len) (go (ltb len model.jobBytes) (eqb len (model.jobBytes + 2 * u16 input (r .start + 6))) refl refl)
       where
         fields : declared.JobFields.JobFields
         fields = record {
           start = u16 input (r .start + 0);
           allowance = u32 input (r .start + 2);
           goals = u16 input (r .start + 6);
-          «goals_at» = r .start + 8;
+          «goals_at» = r .start + model.jobBytes;
         }
 
-        go : (a b : Bool) → ltb len 8 ≡ a → eqb len (8 + 2 * u16 input (r .start + 6)) ≡ b → Says input r (cond (a || not b) Misfit (Job fields))
-        go true b e f = misfit-says _ _ (job-item whole kind) job-length λ exact. omega (arith, ltb-true len 8 e)
+        go : (a b : Bool) → ltb len model.jobBytes ≡ a → eqb len (model.jobBytes + 2 * u16 input (r .start + 6)) ≡ b
+            → Says input r (cond (a || not b) Misfit (Job fields))
+        go true b e f = misfit-says _ _ (job-item whole kind) job-length λ exact. omega (arith, ltb-true len _ e)
         go false false e f =
-            let long : 8 ≤ len = ltb-false len 8 e in
+            let long : model.jobBytes ≤ len = ltb-false len _ e in
             misfit-says _ _ (job-item whole kind) job-length λ exact. eqb-false len _ f (exact ∙ rw (goal-count long))
-        go false true e f = job-fits fields refl (ltb-false len 8 e) (eqb-true len _ f)
+        go false true e f = job-fits fields refl (ltb-false len _ e) (eqb-true len _ f)
 
   pub other-says : r .kind ≢ model.headKind → r .kind ≢ model.arcKind → r .kind ≢ model.estimateKind → r .kind ≢ model.jobKind
       → Says input r Other

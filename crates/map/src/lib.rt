@@ -4,8 +4,8 @@ pub mod record;
 pub mod sheet;
 
 ghost use mathlib.Core.Path.{_≡_};
-ghost use Prim.Native.Nat.{_+_, _*_, _≤_};
-ghost use Rattle.map.specs.Sizes.{mapOf};
+ghost use Prim.Native.Nat.{_≤_};
+ghost use Rattle.map.specs.Sizes.{mapOf, wordsOf, bytesOf};
 ghost use Rattle.model.specs.Limits.{maxPlaces, maxArcs};
 
 // The size of a map within the limits: its places are 0 to places − 1.
@@ -58,7 +58,7 @@ impl Site {
     // The words of the work area that document 01 asks for.
     pub fn words(self) -> usize
         requires { ⌜ (self .places ≤ maxPlaces) × (self .arcs ≤ maxArcs) ⌝ }
-        ensures { λ r. ⌜ r ≡ 16 * self .places + 2 * self .arcs ⌝ }
+        ensures { λ r. ⌜ r ≡ wordsOf self ⌝ }
     {
         16 * self.places + 2 * self.arcs
     }
@@ -66,7 +66,7 @@ impl Site {
     // The bytes of the sheet area that it asks for.
     pub fn bytes(self) -> usize
         requires { ⌜ self .places ≤ maxPlaces ⌝ }
-        ensures { λ r. ⌜ r ≡ 10 + 2 * self .places ⌝ }
+        ensures { λ r. ⌜ r ≡ bytesOf self ⌝ }
     {
         10 + 2 * self.places
     }

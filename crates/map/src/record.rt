@@ -2,6 +2,7 @@
 ghost use mathlib.Core.Path.{_≡_};
 ghost use Prim.Native.Nat.{_+_, _≤_};
 ghost use lib.ListN.{length};
+ghost use Rattle.model.specs.Items.{headBytes, arcBytes, estimateBytes};
 ghost use Rattle.map.specs.Records.{readAt};
 ghost use Rattle.map.specs.Items.{sizeAt, laneAt, estimateAt, jobAt, LiesIn, Says, EndsBy, EndsByKind};
 
@@ -120,7 +121,7 @@ pub fn read_at(input: &[u8], at: usize) -> Read
 }
 
 fn head_at(input: &[u8], at: usize) -> Size
-    requires { ⌜ at + 4 ≤ length (now input) ⌝ }
+    requires { ⌜ at + headBytes ≤ length (now input) ⌝ }
     ensures { λ r. ⌜ r ≡ sizeAt (now (input .entry)) at ⌝ }
 {
     Size {
@@ -130,7 +131,7 @@ fn head_at(input: &[u8], at: usize) -> Size
 }
 
 fn lane_at(input: &[u8], at: usize) -> Lane
-    requires { ⌜ at + 6 ≤ length (now input) ⌝ }
+    requires { ⌜ at + arcBytes ≤ length (now input) ⌝ }
     ensures { λ r. ⌜ r ≡ laneAt (now (input .entry)) at ⌝ }
 {
     Lane {
@@ -141,7 +142,7 @@ fn lane_at(input: &[u8], at: usize) -> Lane
 }
 
 fn estimate_at(input: &[u8], at: usize) -> Estimate
-    requires { ⌜ at + 6 ≤ length (now input) ⌝ }
+    requires { ⌜ at + estimateBytes ≤ length (now input) ⌝ }
     ensures { λ r. ⌜ r ≡ estimateAt (now (input .entry)) at ⌝ }
 {
     Estimate {

@@ -12,7 +12,7 @@ use Rattle.model.specs.Framing.{Record, stop, push, frame, frameUpTo}
 use Rattle.model.specs.Limits.{maxCost, maxEstimate}
 use Rattle.model.specs.Problem.{Arc, Valid}
 use Rattle.model.specs.Items.{Charge, flat, Estimate, laneOf, itemOf, items, laneIn}
-use Rattle.model.specs.Stated.{statedBy, stated, lookup, costUnder, arcUnder, problemOf}
+use Rattle.model.specs.Stated.{statedBy, stated, statedIn, lookup, costUnder, arcUnder, problemOf}
 use Rattle.model.specs.Refusals.{wrongSize, outsideMap, isFree, freeArc, largeEstimate, jobOutsideMap, wrongGoals, goalEstimate}
 use Rattle.model.specs.Refusals.{formRows, sizeRows, mapRows, jobRows, inputRows, roomRows, rows, holdsAt, refusal, Accepted}
 use Rattle.model.proofs.Lists.{neither, any-false, filterMap-member}
@@ -61,7 +61,7 @@ unfolding laneOf costUnder
 lane-cost-below factors b B = omega (arith, u16-below b 4 B)
 
 cost-below : (input factors : List ℕ) → Bytes input → (a : Arc)
-    → List·Memᴰ a (map (arcUnder factors) (stated (frame input .records) .lanes)) → a .cost ≤ maxCost
+    → List·Memᴰ a (map (arcUnder factors) (statedIn input .lanes)) → a .cost ≤ maxCost
 unfolding frame stated statedBy items arcUnder
 cost-below input factors B a i =
     let (l, j, is) = Memᴰ·of-map (arcUnder factors) _ i in
@@ -83,7 +83,7 @@ states-growth rs = refl
 
 -- each condition is found by its number
 pub accepted-valid : (input : List ℕ) (words bytes : ℕ) → Bytes input → Accepted input words bytes
-    → Valid (problemOf (stated (frame input .records)))
+    → Valid (problemOf (statedIn input))
 unfolding problemOf arcUnder rows inputRows formRows sizeRows mapRows jobRows roomRows holdsAt
     wrongSize outsideMap freeArc largeEstimate jobOutsideMap wrongGoals goalEstimate refusal
 accepted-valid input words bytes B A =

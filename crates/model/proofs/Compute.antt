@@ -35,7 +35,6 @@ use Rattle.model.specs.Refusals.{
   jobOutsideMap,
   wrongGoals,
   goalEstimate,
-  workWords,
   shortWork,
   shortSheet,
   formRows,
@@ -118,7 +117,7 @@ unfolding
     headOf laneOf estimateOf jobOf itemOf bodyLength otherThan misfits items sizeIn laneIn estimateIn jobIn
     statedBy stated lookup costUnder arcUnder problemOf
     unknownKind wrongLength beginsWithHead wrongHead wrongSize outsideMap isFree freeArc largeEstimate twoEstimates
-    endsWithJob wrongJob jobOutsideMap wrongGoals goalEstimate workWords shortWork shortSheet
+    endsWithJob wrongJob jobOutsideMap wrongGoals goalEstimate shortWork shortSheet
     formRows sizeRows mapRows jobRows inputRows roomRows rows firstThatHolds refusal
     lowers storeIf arrive relaxFrom relax relaxAll sameEntry sameTable relaxUpTo startTable table
     precedes keyOf keysFrom within firstGoal lengthTo crossing nextLimit notOver judge queryOn query

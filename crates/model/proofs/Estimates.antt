@@ -7,11 +7,10 @@ use Prim.Native.Nat.{ℕ, zero, suc, _+_, _≤_, _<_}
 use native.Mathlib.Omega.{arith}
 use lib.Dec.{ltb}
 use borrow.Author.Tests.{ltb-false, ne-eqb}
-use Rattle.model.specs.Framing.{frame}
 use Rattle.model.specs.Limits.{maxEstimate}
 use Rattle.model.specs.Problem.{Problem, Arc}
 use Rattle.model.specs.Paths.{stay, on, Overstates, Admissible}
-use Rattle.model.specs.Stated.{stated, problemOf}
+use Rattle.model.specs.Stated.{statedIn, problemOf}
 use Rattle.model.specs.Jobs.{putJob}
 use Rattle.model.specs.Terms.{Consistent}
 use Rattle.model.proofs.Lists.{any-false}
@@ -22,7 +21,7 @@ use Rattle.model.proofs.Overstating.{below-consistent}
 
 -- map A with the estimate h at place 1, from 0 to 3
 problemA : ℕ → Problem
-problemA h = problemOf (stated (frame (mapA h ++ putJob 0 944 (3 ∷ [])) .records))
+problemA h = problemOf (statedIn (mapA h ++ putJob 0 944 (3 ∷ [])))
 
 -- the least costs to place 3
 distance : ℕ → ℕ

@@ -16,7 +16,7 @@ use Rattle.model.specs.Items.{arcKind, Lane, Item, lane, jobOf, itemOf, 
 use Rattle.model.specs.Stated.{lookup}
 use Rattle.model.specs.Refusals.{unknownKind, wrongLength, beginsWithHead, wrongHead, wrongSize, outsideMap, isFree, freeArc}
 use Rattle.model.specs.Refusals.{largeEstimate, twoEstimates, endsWithJob, wrongJob, jobOutsideMap, wrongGoals, goalEstimate}
-use Rattle.model.specs.Refusals.{workWords, shortWork, shortSheet, formRows, sizeRows, mapRows, jobRows, inputRows, roomRows, rows}
+use Rattle.model.specs.Refusals.{shortWork, shortSheet, formRows, sizeRows, mapRows, jobRows, inputRows, roomRows, rows}
 use Rattle.model.specs.Refusals.{firstThatHolds, refusal, Accepted}
 use Rattle.model.proofs.Tests.{any-none, or-none}
 use Rattle.model.proofs.PlainJobs.{plain, plainJob, withArcs, plainRecords, plain-framed, flatLane, plainItems, plainStated}
@@ -103,8 +103,8 @@ module _ (arcs : List Arc) (start goal : ℕ) (few : length arcs ≤ maxArcs) (o
   right-goals = (refl, refl)
 
   enough-room : (words bytes : ℕ) → 16 * maxPlaces + 2 * length arcs ≤ words → 10 + 2 * maxPlaces ≤ bytes
-      → (shortWork (plainStated arcs start goal) words ≡ false) × (shortSheet (plainStated arcs start goal) bytes ≡ false)
-  unfolding shortWork shortSheet workWords plainStated
+      → (shortWork (plainStated arcs start goal .size) words ≡ false) × (shortSheet (plainStated arcs start goal .size) bytes ≡ false)
+  unfolding shortWork shortSheet plainStated
   enough-room words bytes h k = (le-ltb words _ h, le-ltb bytes _ k)
 
   pub plain-accepted : (words bytes : ℕ) → 16 * maxPlaces + 2 * length arcs ≤ words → 10 + 2 * maxPlaces ≤ bytes

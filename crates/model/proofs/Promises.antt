@@ -20,7 +20,7 @@ use Rattle.model.specs.Routes.{routeTo}
 use Rattle.model.specs.Sheets.{routeSheet, noRouteSheet, reading, readSheet}
 use Rattle.model.specs.Endings.{Ending, spent, noRoute, routed, Engine, budgeted}
 use Rattle.model.specs.Answer.{answer, sheetOf, answerOf, overFront, Result, refusedWith, endedWith, callIf, call, route}
-use Rattle.model.specs.Calls.{Call, statedIn, result, problem, allowance, IsAccepted, written}
+use Rattle.model.specs.Calls.{Call, result, problem, allowance, IsAccepted, written}
 use Rattle.model.proofs.Lists.{any-false}
 use Rattle.model.proofs.Rows.{NoneHolds, first-given, none-given, rows-numbered}
 use Rattle.model.proofs.Acceptance.{accepted-valid}
@@ -30,6 +30,7 @@ use Rattle.model.proofs.Admissible.{route-first-cheapest}
 use Rattle.model.proofs.Sheets.{Possible, route-read-back, no-route-read-back, same-route-sheet, same-no-route-sheet, different-kinds}
 use Rattle.model.proofs.RouteSheets.{route-possible}
 use Rattle.model.proofs.Endings.{IsSpent, IsNoRoute, IsRouted, Ends, spent-ends, none-ends, route-ends, budgeted-ends}
+use Rattle.model.specs.Stated.{statedIn}
 
 -- ---- A refused call
 
@@ -77,7 +78,7 @@ ended-comes (routed e) words work sheet = record { answer-is = refl; on-sheet = 
 -- an accepted call comes to what its engine ends with
 pub accepted-call : (engine : Engine) (c : Call) → IsAccepted c
     → call engine (c .input) (c .work) (c .sheet)
-    ≡ endedWith (engine (problem c) (allowance c)) (workWords (statedIn c)) (c .work) (c .sheet)
+    ≡ endedWith (engine (problem c) (allowance c)) (workWords (statedIn (c .input) .size)) (c .work) (c .sheet)
 unfolding call callIf
 accepted-call engine c A = rw A
 
@@ -85,7 +86,7 @@ abbrev pub endingOf : Call → Ending
 endingOf c = budgeted (problem c) (allowance c)
 
 pub comes : (c : Call) → IsAccepted c → EndsAs (endingOf c) (result c)
-comes c A = rw (accepted-call budgeted c A) (ended-comes (endingOf c) (workWords (statedIn c)) (c .work) (c .sheet))
+comes c A = rw (accepted-call budgeted c A) (ended-comes (endingOf c) (workWords (statedIn (c .input) .size)) (c .work) (c .sheet))
 
 pub valid : (c : Call) → IsAccepted c → Valid (problem c)
 valid c A = accepted-valid (c .input) (length (c .work)) (length (c .sheet)) (c .bytes) A

@@ -9,8 +9,8 @@ use lib.Dec.{eqb}
 use lib.ListN.{length, getD, replicate, length-replicate}
 use borrow.Author.Tests.{eqb-true, eqb-false}
 use Rattle.model.specs.Bytes.{Bytes, put16}
-use Rattle.model.specs.Framing.{frame, putRecord}
-use Rattle.model.specs.Stated.{Stated, stated, problemOf}
+use Rattle.model.specs.Framing.{putRecord}
+use Rattle.model.specs.Stated.{Stated, statedIn, problemOf}
 use Rattle.model.specs.Paths.{GoalReachable, Route, Admissible}
 use Rattle.model.specs.Rounds.{trace, total, neverSpent}
 use Rattle.model.specs.Limits.{maxPlaces, maxArcs}
@@ -60,7 +60,7 @@ module _ (input : List ℕ) (arcs : List Arc) (start goal : ℕ) (is : input ≡
       let bytes = le-of-eq (sym (length-replicate {A = ℕ} (10 + 2 * maxPlaces) 0)) in
       rw is (plain-accepted arcs start goal few ok _ _ words bytes)
 
-  call-stated : stated (frame input .records) ≡ plainStated arcs start goal
+  call-stated : statedIn input ≡ plainStated arcs start goal
   call-stated = rw (is, plain-framed arcs start goal) (plain-stated arcs start goal few ok)
 
   call-problem : problem plainCall ≡ plain arcs start goal

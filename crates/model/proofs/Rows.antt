@@ -79,9 +79,9 @@ input-numbered f = refl
 
 -- the call adds the rows of what is lent
 pub refusal-parts : (f : Framed) (words bytes : ℕ)
-    → refusal f words bytes ≡ firstOf (inputRefusal f) (firstThatHolds (roomRows (stated (f .records)) words bytes))
+    → refusal f words bytes ≡ firstOf (inputRefusal f) (firstThatHolds (roomRows (stated (f .records) .size) words bytes))
 unfolding refusal inputRefusal rows
-refusal-parts f words bytes = groups (inputRows f) (roomRows (stated (f .records)) words bytes) (input-numbered f)
+refusal-parts f words bytes = groups (inputRows f) (roomRows (stated (f .records) .size) words bytes) (input-numbered f)
 
 -- an input's number, group by group
 pub input-groups : (f : Framed)

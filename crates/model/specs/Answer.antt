@@ -59,7 +59,7 @@ endedWith e words work sheet =
 
 unfoldable pub callIf : ℕ → Engine → Stated → (work sheet : List ℕ) → Result
 callIf (suc n) engine s work sheet = refusedWith (suc n) work sheet
-callIf zero engine s work sheet = endedWith (engine (problemOf s) (s .job .allowance)) (workWords s) work sheet
+callIf zero engine s work sheet = endedWith (engine (problemOf s) (s .job .allowance)) (workWords (s .size)) work sheet
 
 -- A call with an engine: an input is judged, and an accepted one is searched.
 unfoldable pub call : Engine → (input work sheet : List ℕ) → Result

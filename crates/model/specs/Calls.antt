@@ -4,9 +4,8 @@ use mathlib.Core.List.{List}
 use Prim.Native.Nat.{ℕ}
 use lib.ListN.{length, take}
 use Rattle.model.specs.Bytes.{Bytes}
-use Rattle.model.specs.Framing.{frame}
 use Rattle.model.specs.Problem.{Problem}
-use Rattle.model.specs.Stated.{Stated, stated, problemOf}
+use Rattle.model.specs.Stated.{statedIn, problemOf}
 use Rattle.model.specs.Refusals.{Accepted}
 use Rattle.model.specs.Answer.{Result, route}
 
@@ -18,15 +17,12 @@ pub record Call : Type 0 where
   pub bytes : Bytes input
 
 module _ (c : Call) where
-  -- what the input states; its problem, and its allowance
-  abbrev pub statedIn : Stated
-  statedIn = stated (frame (c .input) .records)
-
+  -- the problem and the allowance that the input states
   abbrev pub problem : Problem
-  problem = problemOf statedIn
+  problem = problemOf (statedIn (c .input))
 
   abbrev pub allowance : ℕ
-  allowance = statedIn .job .allowance
+  allowance = statedIn (c .input) .job .allowance
 
   abbrev pub IsAccepted : Type 0
   IsAccepted = Accepted (c .input) (length (c .work)) (length (c .sheet))

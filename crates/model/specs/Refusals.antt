@@ -8,7 +8,7 @@ use lib.ListN.{length}
 use Rattle.model.specs.Lists.{any, filterMap, isGiven, repeats, rises}
 use Rattle.model.specs.Framing.{Record, Framed, frame}
 use Rattle.model.specs.Limits.{maxPlaces, maxArcs, maxEstimate, maxGoals}
-use Rattle.model.specs.Items.{Charge, flat, Lane, Estimate, Item, bodyLength, misfits, items, sizeIn, jobIn}
+use Rattle.model.specs.Items.{Size, Charge, flat, Lane, Estimate, Item, bodyLength, misfits, items, sizeIn, jobIn}
 use Rattle.model.specs.Stated.{Stated, stated, lookup}
 
 -- ---- Form: what records there are
@@ -92,16 +92,20 @@ goalEstimate s = any (λ (g : ℕ). not (eqb (lookup 0 (s .estimates) g) 0)) (s 
 -- ---- Room
 
 -- what the work area must hold, in words, and what is zero after a search
-unfoldable pub workWords : Stated → ℕ
-workWords s = 16 * s .size .places + 2 * s .size .arcs
+abbrev pub workWords : Size → ℕ
+workWords s = 16 * s .places + 2 * s .arcs
+
+-- what the sheet area must hold, in bytes
+abbrev pub sheetBytes : Size → ℕ
+sheetBytes s = 10 + 2 * s .places
 
 -- 14: "work area under 16 × N + 2 × M words of 32 bits"
-unfoldable pub shortWork : Stated → ℕ → Bool
+unfoldable pub shortWork : Size → ℕ → Bool
 shortWork s words = ltb words (workWords s)
 
 -- 15: "sheet area under 10 + 2 × N bytes"
-unfoldable pub shortSheet : Stated → ℕ → Bool
-shortSheet s bytes = ltb bytes (10 + 2 * s .size .places)
+unfoldable pub shortSheet : Size → ℕ → Bool
+shortSheet s bytes = ltb bytes (sheetBytes s)
 
 -- ---- The conditions in the order in which they are looked for
 
@@ -137,11 +141,11 @@ inputRows f =
     formRows f ++ (sizeRows s ++ (mapRows s ++ jobRows (items (f .records)) s))
 
 -- of what is lent to a route
-unfoldable pub roomRows : Stated → (words bytes : ℕ) → List Row
+unfoldable pub roomRows : Size → (words bytes : ℕ) → List Row
 roomRows s words bytes = row 14 (shortWork s words) ∷ row 15 (shortSheet s bytes) ∷ []
 
 unfoldable pub rows : Framed → (words bytes : ℕ) → List Row
-rows f words bytes = inputRows f ++ roomRows (stated (f .records)) words bytes
+rows f words bytes = inputRows f ++ roomRows (stated (f .records) .size) words bytes
 
 -- the number of the first row that holds, 0 where none does
 unfoldable pub firstThatHolds : List Row → ℕ

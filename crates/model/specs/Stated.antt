@@ -5,7 +5,7 @@ use mathlib.Core.List.{List, [], _∷_, map, headD}
 use Prim.Native.Nat.{ℕ}
 use lib.Dec.{eqb}
 use Rattle.model.specs.Lists.{filterMap}
-use Rattle.model.specs.Framing.{Record}
+use Rattle.model.specs.Framing.{Record, frame}
 use Rattle.model.specs.Problem.{Problem, Arc}
 use Rattle.model.specs.Items.{Size, Charge, flat, Lane, Estimate, Job, Item, items, sizeIn, laneIn, estimateIn, jobIn}
 
@@ -40,6 +40,10 @@ statedBy is =
 
 unfoldable pub stated : List Record → Stated
 stated rs = statedBy (items rs)
+
+-- what an input states
+abbrev pub statedIn : List ℕ → Stated
+statedIn input = stated (frame input .records)
 
 -- the value of v's estimate, or the default where it has none
 unfoldable pub lookup : ℕ → List Estimate → ℕ → ℕ

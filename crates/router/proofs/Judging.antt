@@ -32,7 +32,7 @@ module _ {input : List ℕ} {g : Judgement} (judged : Judged input g) where
       let f = frame input in
       let own : n ≡ inputRefusal f = rw e at (judged .number) in
       let above : n ≡ 0 → ⊥ = λ z. omega arith in
-      let room = firstThatHolds (roomRows (stated (f .records)) (length work) (length sheet)) in
+      let room = firstThatHolds (roomRows (stated (f .records) .size) (length work) (length sheet)) in
       let number : n ≡ refusal f (length work) (length sheet) =
       given-first n room above ∙ ap (λ (x : ℕ). firstOf x room) own ∙ sym (refusal-parts f (length work) (length sheet)) in
       refusal-routed input work sheet n r number above is

@@ -9,9 +9,9 @@ use borrow.Author.Tests.{ltb-false}
 use Rattle.map.specs.declared.Job.{Job}
 use Rattle.model.specs.Framing.{frame}
 use Rattle.model.specs.Limits.{maxPlaces, maxArcs}
-use Rattle.model.specs.Stated.{stated}
-use Rattle.model.specs.Refusals.{wrongSize, workWords, shortWork, shortSheet, formRows, sizeRows, mapRows, jobRows, inputRows, roomRows}
-use Rattle.model.specs.Refusals.{firstThatHolds, firstOf, holdsAt, inputRefusal, refusal}
+use Rattle.model.specs.Stated.{statedIn}
+use Rattle.model.specs.Refusals.{wrongSize, formRows, sizeRows, mapRows, jobRows, inputRows}
+use Rattle.model.specs.Refusals.{firstOf, holdsAt, inputRefusal, refusal}
 use Rattle.model.specs.Answer.{answer, refusedWith, callIf, call}
 use Rattle.model.proofs.Lists.{neither}
 use Rattle.model.proofs.Rows.{row-fails, input-numbered, refusal-parts}
@@ -31,7 +31,7 @@ module _ {input : List ℕ} {j : Job} (p : Passes input j) where
   pub sizes : (j .site .places ≤ maxPlaces) × (j .site .arcs ≤ maxArcs)
   unfolding inputRefusal inputRows formRows sizeRows mapRows jobRows holdsAt wrongSize
   sizes =
-      let s = stated (frame input .records) in
+      let s = statedIn input in
       let n = s .size .places in
       let m = s .size .arcs in
       let no = row-fails (inputRows (frame input)) (input-numbered (frame input)) (p .number) 5 in
@@ -40,7 +40,7 @@ module _ {input : List ℕ} {j : Job} (p : Passes input j) where
 
   -- the call's number is that of the room
   room-given : (work sheet : List ℕ) → refusal (frame input) (length work) (length sheet) ≡ roomNumber (j .site) (length work) (length sheet)
-  unfolding roomRows firstThatHolds firstOf shortWork shortSheet workWords
+  unfolding firstOf
   room-given work sheet = rw (refusal-parts (frame input) (length work) (length sheet), p .number, p .states .places, p .states .arcs)
 
   pub short-routed : {work sheet : List ℕ} {n : ℕ} {r : Answer} → n ≡ roomNumber (j .site) (length work) (length sheet) → (n ≡ 0 → ⊥)

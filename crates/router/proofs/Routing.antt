@@ -2,12 +2,13 @@
 use mathlib.Core.Path.{_≡_, sym, ap, _∙_}
 use mathlib.Core.Bool.{_||_}
 use mathlib.Core.List.{List}
-use Prim.Native.Nat.{ℕ, _+_, _*_, _≤_}
+use Prim.Native.Nat.{ℕ, _≤_}
 use native.Mathlib.Omega.{arith}
 use lib.Dec.{ltb}
 use lib.ListN.{length, take, replicate, length-replicate}
 use lib.Seq.{sets}
 use borrow.Author.Tests.{ltb-false}
+use Rattle.map.specs.Sizes.{wordsOf, bytesOf}
 use Rattle.map.specs.declared.Job.{Job}
 use Rattle.map.specs.declared.Site.{Site}
 use Rattle.layout.specs.Regions.{arcsAt}
@@ -17,8 +18,8 @@ use Rattle.model.specs.Bytes.{Bytes}
 use Rattle.model.specs.Framing.{frame}
 use Rattle.model.specs.Limits.{maxPlaces, maxArcs}
 use Rattle.model.specs.Problem.{Valid}
-use Rattle.model.specs.Stated.{stated, problemOf}
-use Rattle.model.specs.Refusals.{wrongSize, workWords, shortWork, shortSheet, formRows, sizeRows, mapRows, jobRows, inputRows, roomRows, rows}
+use Rattle.model.specs.Stated.{stated, statedIn, problemOf}
+use Rattle.model.specs.Refusals.{wrongSize, shortWork, shortSheet, formRows, sizeRows, mapRows, jobRows, inputRows, roomRows, rows}
 use Rattle.model.specs.Refusals.{holdsAt, refusal}
 use Rattle.model.specs.Endings.{Ending, budgeted}
 use Rattle.model.specs.Answer as model
@@ -32,7 +33,7 @@ use Rattle.search.specs.declared.Verdict.{Verdict}
 use Rattle.search.specs.declared.Verdict.the-variants.{Spent, NoRoute}
 use Rattle.search.specs.declared.Verdict.the-variants as verdict
 use Rattle.router.specs.Call.{answerOf, seven, Routed, RoutedFor}
-use Rattle.router.specs.Steps.{HasRoom, wordsOf, Writable, Written, numbersOf, Concludable, Concluded}
+use Rattle.router.specs.Steps.{HasRoom, Writable, Written, numbersOf, Concludable, Concluded}
 use Rattle.router.specs.declared.Answer.{Answer}
 use Rattle.router.proofs.Counting.{routed-possible, follows-few}
 use Rattle.router.proofs.Words.{rest-kept, stored}
@@ -62,13 +63,13 @@ concluded {s} {v} {work₀} w clear is =
 -- what its job states, its areas have room for
 module _ {input work₀ sheet₀ : List ℕ} {j : Job} (s : HasRoom input j work₀ sheet₀) where
   pub enough-words : wordsOf (j .site) ≤ length work₀
-  unfolding rows inputRows formRows sizeRows mapRows jobRows roomRows holdsAt refusal shortWork workWords
+  unfolding rows inputRows formRows sizeRows mapRows jobRows roomRows holdsAt refusal shortWork
   enough-words =
       let f = frame input in
       let no = row-fails (rows f (length work₀) (length sheet₀)) (rows-numbered f (length work₀) (length sheet₀)) (s .accepted) in
       rw (s .states .places, s .states .arcs) (ltb-false _ _ (no 14))
 
-  enough-bytes : 10 + 2 * j .site .places ≤ length sheet₀
+  enough-bytes : bytesOf (j .site) ≤ length sheet₀
   unfolding rows inputRows formRows sizeRows mapRows jobRows roomRows holdsAt refusal shortSheet
   enough-bytes =
       let f = frame input in
@@ -87,7 +88,7 @@ module _ {input work₀ sheet₀ : List ℕ} {j : Job} (s : HasRoom input j work
 
 -- a verdict's sheet can be written: its route, where it is one, has 1 to n places
 searched-writable : {s : Site} {allowance : ℕ} {loaded work : List ℕ} (v : Verdict) (sheet : List ℕ) → Valid (problemAt s loaded)
-    → Searched s allowance loaded work v → arcsAt (s .places) ≤ length work → 10 + 2 * s .places ≤ length sheet → Writable s v work sheet
+    → Searched s allowance loaded work v → arcsAt (s .places) ≤ length work → bytesOf s ≤ length sheet → Writable s v work sheet
 unfolding problemAt
 searched-writable (Spent v) sheet ok s words room = tt
 searched-writable (NoRoute v) sheet ok s words room = record { room = omega arith }
@@ -114,11 +115,11 @@ module _ {input work₀ sheet₀ loaded work : List ℕ} {j : Job} {v : Verdict}
       }
 
   -- the call ends as the search of the loaded problem does
-  loaded-ending : budgeted (problemOf (stated (frame input .records))) (stated (frame input .records) .job .allowance)
+  loaded-ending : budgeted (problemOf (statedIn input)) (statedIn input .job .allowance)
       ≡ budgeted (problemAt (j .site) loaded) (j .allowance)
   loaded-ending =
       let ok = accepted-valid input (length work₀) (length sheet₀) bytes (s .accepted) in
-      let p = problemOf (stated (frame input .records)) in
+      let p = problemOf (statedIn input) in
       ap (budgeted p) (sym (s .states .allowance)) ∙ same-ending p _ ok (l .holds .valid) (l .same) (j .allowance)
 
   -- the words beyond those that the map asks for are as at the entry
@@ -128,7 +129,7 @@ module _ {input work₀ sheet₀ loaded work : List ℕ} {j : Job} {v : Verdict}
 
   pub accepted-routed : {sheet after : List ℕ} {r : Answer} → Concluded (j .site) v work sheet₀ r after sheet
       → Routed input work₀ sheet₀ r after sheet
-  unfolding call callIf endedWith workWords
+  unfolding call callIf endedWith
   accepted-routed c =
       let e = budgeted (problemAt (j .site) loaded) (j .allowance) in
       record {

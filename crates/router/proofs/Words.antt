@@ -13,7 +13,7 @@ use Rattle.load.specs.Loaded.{Loaded}
 use Rattle.model.specs.Answer.{overFront}
 use Rattle.search.specs.Rounds.{Searched}
 use Rattle.search.specs.declared.Verdict.{Verdict}
-use Rattle.router.specs.Steps.{wordsOf}
+use Rattle.map.specs.Sizes.{wordsOf}
 
 -- Loading and searching leave the words beyond those that the map asks for as they were.
 pub rest-kept : {input work₀ loaded work : List ℕ} {s : Site} {allowance : ℕ} {v : Verdict}

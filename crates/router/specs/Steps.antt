@@ -1,17 +1,16 @@
 -- What the steps of the call ask and leave: an input that passes is given room, loaded and searched; the verdict is concluded by its sheet, zeros and
 -- numbers.
 use mathlib.Core.Path.{_≡_}
-use mathlib.Core.Bool.{cond}
 use mathlib.Core.List.{List}
-use Prim.Native.Nat.{ℕ, _+_, _*_, _≤_}
-use lib.Dec.{ltb}
+use Prim.Native.Nat.{ℕ, _≤_}
 use lib.ListN.{length}
+use Rattle.map.specs.Sizes.{sizeOf, wordsOf}
 use Rattle.map.specs.Jobs.{States}
 use Rattle.map.specs.declared.Job.{Job}
 use Rattle.map.specs.declared.Site.{Site}
 use Rattle.model.specs.Framing.{frame}
 use Rattle.model.specs.Limits.{maxPlaces, maxArcs}
-use Rattle.model.specs.Refusals.{inputRefusal, Accepted}
+use Rattle.model.specs.Refusals.{roomRows, firstThatHolds, inputRefusal, Accepted}
 use Rattle.model.specs.Endings.{Ending}
 use Rattle.model.specs.Answer as model
 use Rattle.model.specs.Answer.{Result, answer, sheetOf, overFront, endedWith}
@@ -32,12 +31,9 @@ pub record HasRoom (input : List ℕ) (j : Job) (work sheet : List ℕ) : Type 0
   pub accepted : Accepted input (length work) (length sheet)
   pub states : States input j
 
--- the words that a site's map asks for, and the number that is given for too little room: 14, 15, or 0 for none
-abbrev pub wordsOf : Site → ℕ
-wordsOf s = 16 * s .places + 2 * s .arcs
-
+-- the number that is given for too little room: 14, 15, or 0 for none
 abbrev pub roomNumber : Site → (words bytes : ℕ) → ℕ
-roomNumber s words bytes = cond (ltb words (wordsOf s)) 14 (cond (ltb bytes (10 + 2 * s .places)) 15 0)
+roomNumber s words bytes = firstThatHolds (roomRows (sizeOf s) words bytes)
 
 -- what the writer asks for the sheet of a verdict, if it has one
 abbrev pub Writable : Site → Verdict → (work sheet : List ℕ) → Type 0

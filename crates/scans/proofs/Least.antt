@@ -12,6 +12,7 @@ use lib.Dec.{ltb}
 use borrow.Author.Tests.{lt-ltb, le-ltb}
 use Rattle.model.specs.Lists.{consIf, filterMap, least, leastBy, lesser}
 use Rattle.model.proofs.Same.{same-least}
+use Rattle.model.proofs.Tests.{filterMap-append}
 use Rattle.layout.specs.Labels.{noWord, wordOr}
 use Rattle.layout.proofs.Labels.{wordOr-none, wordOr-some, wordOr-is}
 
@@ -26,21 +27,11 @@ lesser-below r u (some z) h k y e = go (ltb z r) e
     go false e = k y e
 
 module _ {A : Type 0} (f : A → Option ℕ) where
-  filterMap-append : (xs ys : List A) → filterMap f (xs ++ ys) ≡ filterMap f xs ++ filterMap f ys
-  unfolding filterMap consIf
-  filterMap-append [] ys = refl
-  filterMap-append (x ∷ xs) ys = go (f x) (filterMap-append xs ys)
-    where
-      go : (o : Option ℕ) → filterMap f (xs ++ ys) ≡ filterMap f xs ++ filterMap f ys
-          → consIf o (filterMap f (xs ++ ys)) ≡ consIf o (filterMap f xs) ++ filterMap f ys
-      go none e = e
-      go (some y) e = rw e
-
   -- elements of which f gives nothing add nothing
   pub filterMap-nothing : {B : Type 0} (g : B → A) → ((y : B) → f (g y) ≡ none) → (xs : List A) (ys : List B)
       → filterMap f (xs ++ map g ys) ≡ filterMap f xs
   unfolding filterMap consIf
-  filterMap-nothing {B} g h xs ys = filterMap-append xs (map g ys) ∙ rw (nothing ys) (append-nil (filterMap f xs))
+  filterMap-nothing {B} g h xs ys = filterMap-append f xs (map g ys) ∙ rw (nothing ys) (append-nil (filterMap f xs))
     where
       nothing : (ys : List B) → filterMap f (map g ys) ≡ []
       nothing [] = refl
