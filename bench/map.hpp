@@ -5,9 +5,20 @@
 
 #include "plain.hpp"
 
+// an arc with a class is written with it and its length
 struct Arc {
-    uint32_t from, to, cost;
+    uint32_t from, to, cost, lane_class = plain::none;
 };
+
+// the classes in which a lane of some length has this cost
+inline std::vector<uint32_t> classes(uint32_t cost)
+{
+    std::vector<uint32_t> all;
+    for (uint32_t c = 0; c < plain::factors.size(); c++)
+        if (cost % plain::factors[c] == 0 && cost / plain::factors[c] <= 4095)
+            all.push_back(c);
+    return all;
+}
 
 struct Map {
     const char *name = "";
@@ -31,9 +42,12 @@ inline std::vector<uint8_t> input_of(const Map &m)
     put(out, m.places, 2);
     put(out, static_cast<uint32_t>(m.arcs.size()), 2);
     for (const Arc &a : m.arcs) {
-        record(6, 2);
-        for (uint32_t x : {a.from, a.to, a.cost})
+        bool flat = a.lane_class == plain::none;
+        record(flat ? 6 : 8, flat ? 2 : 5);
+        for (uint32_t x : {a.from, a.to, flat ? a.cost : a.cost / plain::factors[a.lane_class]})
             put(out, x, 2);
+        if (!flat)
+            put(out, a.lane_class, 2);
     }
     for (uint32_t v = 0; v < m.places; v++)
         if (m.estimate[v] != plain::none) {

@@ -78,6 +78,17 @@ inline Map grid(uint32_t side, bool shelves, uint32_t share)
     return m;
 }
 
+// the same with lanes of both kinds and of all classes
+inline Map classed(Map m)
+{
+    Chance chance;
+    m.name = "classes";
+    for (Arc &a : m.arcs)
+        if (std::vector<uint32_t> all = classes(a.cost); chance.below(2) == 0)
+            a.lane_class = all[chance.below(static_cast<uint32_t>(all.size()))];
+    return m;
+}
+
 inline Map random(uint32_t places, uint32_t share)
 {
     Map m = empty("random", places, 0, places - 1);
@@ -175,7 +186,7 @@ inline std::vector<Map> all()
 {
     return {
         grid(16, false, 60), grid(23, false, 60), grid(32, false, 60), grid(45, false, 60), grid(64, false, 60),
-        grid(64, false, 0), grid(64, false, 95), grid(64, true, 0), grid(64, true, 60), grid(64, true, 95),
+        grid(64, false, 0), grid(64, false, 95), grid(64, true, 0), grid(64, true, 60), grid(64, true, 95), classed(grid(64, false, 60)),
         random(4096, 0), random(4096, 60), random(4096, 100), random(2000, 95), // the third has all arcs and estimates that a map can have
         star(4096), star(300), hubs(), chain(), martelli(16), mero(1000), far_goal(16),
     };

@@ -26,7 +26,7 @@ uint32_t r3_sheet(const uint8_t *sheet, size_t length, uint32_t question);
 /* librouter.a: routes a job. The input is read; work and sheet are lent to the call; as many of the answer's seven numbers as
  * there is room for are stored in answer: number, cost, limit, floor, expansions, queries, sheet bytes. The number comes back.
  * 0: the route sheet is at the front of the sheet area
- * 1 to 15: refused, and neither area has changed
+ * 1 to 15 and 20: refused, and neither area has changed
  * 16: the allowance is spent; the sheet area has not changed
  * 17: no goal can be reached; the no-route sheet is at the front of the sheet area
  * After 0, 16 and 17 the first 16 * N + 2 * M words of work are 0. No other word or byte changes.

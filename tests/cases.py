@@ -17,8 +17,8 @@ import sys
 
 from by_hand import lines, runs
 from edges import ends_of_fields, ends_of_records, refused
-from inputs import Graph, any_estimates, damaged, records_before_job, some_graph, some_map
-from reference import ARCS, COST, ESTIMATE, GOALS, PLACES, arc, estimate, head, job, route, u16
+from inputs import Graph, any_estimates, as_measured, classes, damaged, records_before_job, some_graph, some_map
+from reference import ARCS, COST, ESTIMATE, GOALS, ORDER, PLACES, arc, estimate, head, job, route, u16
 
 DOCUMENT, REFUSALS, ENDS, CONSISTENT, GAPS, OVERSTATING, DAMAGED = range(7)
 NUMBERS = struct.Struct('<12I')
@@ -33,7 +33,7 @@ def needs(data):
 
 def case(group, data, words, room):
     answer, sheet = route(data, words, room)
-    zeros = 0 if 1 <= answer[0] <= 15 else needs(data)[0]
+    zeros = 0 if answer[0] in ORDER else needs(data)[0]
     return NUMBERS.pack(group, len(data), words, room, *answer, zeros) + data + sheet
 
 
@@ -62,7 +62,8 @@ def whole_graph(rnd):
 
 def largest(graph, far):
     """the longest input that is not refused; one with an arc too many; and the longest route, with the highest cost and the highest limit"""
-    arcs, estimates = b''.join(arc(*a) for a in graph.arcs), b''.join(estimate(v, (d or 0) * 6 // 10) for v, d in enumerate(far))
+    arcs = b''.join(as_measured(u, v, cost, classes(cost)[-1]) for u, v, cost in graph.arcs)
+    estimates = b''.join(estimate(v, (d or 0) * 6 // 10) for v, d in enumerate(far))
     data = head(PLACES, ARCS) + arcs + estimates + job(20, 236 * PLACES, graph.goals)
     agree(data, far[20], False)
     chain = b''.join(arc(v, v + 1, COST) for v in range(PLACES - 1)) + estimate(PLACES - 2, ESTIMATE)

@@ -1,14 +1,14 @@
-"""Inputs at the edges, for tests/cases.py: every refusal of 1 to 13 alone and in pairs, and the ends of every range."""
+"""Inputs at the edges, for tests/cases.py: every refusal of an input alone and in pairs, and the ends of every range."""
 import itertools
 
-from reference import COST, ESTIMATE, GOALS, PLACES, arc, estimate, head, job, p16, record
+from reference import COST, ESTIMATE, FACTORS, GOALS, LENGTH, ORDER, PLACES, SIZES, arc, estimate, head, job, measured, p16, record
 
 
 def broken(kinds):
     """an input that has the conditions of these refusals, and asks for 52 words and 16 bytes"""
     n, first, arcs, more = 3, head(3, 2), [arc(0, 1, 2), arc(1, 2, 2)], []
     if 2 in kinds:
-        more.append(record(5, b''))
+        more.append(record(6, b''))
     if 3 in kinds:
         more.append(record(3, b'\0'))
     if 4 in kinds:
@@ -23,6 +23,8 @@ def broken(kinds):
         more.append(estimate(0, ESTIMATE + 1))
     if 9 in kinds:
         more += [estimate(1, 1), estimate(1, 1)]
+    if 20 in kinds:
+        arcs[0] = measured(0, 1, 0, 0)
     if 13 in kinds:
         more.append(estimate(2, 4))
     last = job(n if 11 in kinds else 0, 999, [2, 2] if 12 in kinds else [2])
@@ -30,10 +32,12 @@ def broken(kinds):
 
 
 def refused():
-    """the inputs with words and bytes lent, and the number that is the lowest"""
-    for kinds in itertools.chain([()], itertools.combinations(range(1, 14), 1), itertools.combinations(range(1, 14), 2)):
+    """the inputs with words and bytes lent, and the number that is the first in the order"""
+    alone = [number for number in ORDER if number not in (14, 15)]
+    for kinds in itertools.chain([()], itertools.combinations(alone, 1), itertools.combinations(alone, 2)):
         for words, room in ((52, 16), (51, 16), (52, 15), (51, 15), (0, 0)):
-            yield broken(kinds), words, room, min([*kinds, *[14] * (words < 52), *[15] * (room < 16)], default=0)
+            holding = {*kinds, *[14] * (words < 52), *[15] * (room < 16)}
+            yield broken(kinds), words, room, next((number for number in ORDER if number in holding), 0)
 
 
 def ends_of_fields():
@@ -43,10 +47,14 @@ def ends_of_fields():
         yield head(n, 0) + job(0, 0, [0])
     for v in (0, 2, 3):
         yield from (head(3, 1) + arc(v, 0, 1) + job(0, 708, [0]), head(3, 1) + arc(0, v, 1) + job(0, 708, [2]))
+        yield from (head(3, 1) + measured(v, 0, 1, 0) + job(0, 708, [0]), head(3, 1) + measured(0, v, 1, 0) + job(0, 708, [2]))
         yield from (one + estimate(v, 0) + job(0, 708, [1]), one + job(v, 708, [1]))
         yield from (one + job(0, 708, goals) for goals in ([v], [0, v], [v, 0]))
     for cost in (0, 1, COST):
         yield head(2, 1) + arc(0, 1, cost) + job(0, 472, [1])
+    for length in (0, 1, LENGTH, LENGTH + 1, 65535):
+        for class_ in (*range(len(FACTORS) + 1), 65535):
+            yield head(2, 1) + measured(0, 1, length, class_) + job(0, 472, [1])
     for h in (0, 1, ESTIMATE, ESTIMATE + 1, 2 ** 32 - 1):
         yield from (one + estimate(0, h) + job(0, 708, [1]), one + estimate(0, h) + job(0, 708, [2]), one + estimate(1, h) + job(0, 708, [1]))
     for first, second in ((1, 1), (1, 2), (0, 2), (2, 0)):
@@ -64,9 +72,12 @@ def ends_of_records():
     one, end = head(3, 1) + arc(0, 1, 1), job(0, 708, [1])
     yield from (b'', head(3, 0), end, one, end + one, end + head(3, 0), one + end + end, one + end + arc(0, 1, 1))
     yield from (head(3, 0) + end + arc(0, 1, 1), head(3, 1) + end, one + arc(0, 1, 1) + end)
-    for kind in (0, 5, 256, 65535):
+    # arcs of both kinds count: one too many and just enough of them, before the job and behind it
+    yield from (one + measured(0, 1, 1, 0) + end, head(3, 2) + arc(0, 1, 9) + measured(0, 1, 2, 3) + end)
+    yield from (head(3, 0) + end + measured(0, 1, 1, 0), one + end + measured(0, 1, 0, 0), head(3, 2) + arc(0, 1, 1) + end + measured(0, 1, 0, 0))
+    for kind in (0, 6, 256, 261, 65535):
         yield one + record(kind, b'') + end
-    for kind, length in ((1, 4), (2, 6), (3, 6), (4, 8), (4, 10)):
+    for kind, length in (*SIZES.items(), (4, 8), (4, 10)):
         for size in (length - 1, length, length + 1):
             yield from (one + record(kind, bytes(size)) + end, record(kind, bytes(size)) + one + end)
     for length in range(5):

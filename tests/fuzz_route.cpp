@@ -28,7 +28,7 @@ void guide(const plain::Answer &a)
 extern "C" int LLVMFuzzerTestOneInput(const uint8_t *data, size_t size)
 {
     static Comparison comparison;
-    static Tally tally{0, 1, 2, 3, 4, 5, 6, 7, 8, 9, 10, 11, 12, 13, 14, 15, 16, 17};
+    static Tally tally{0, 1, 2, 3, 4, 5, 6, 7, 8, 9, 10, 11, 12, 13, 14, 15, 16, 17, 20};
     if (size < 2)
         return 0;
     const uint8_t *input = data + 2;

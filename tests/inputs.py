@@ -1,7 +1,7 @@
 """Random maps, and inputs damaged at random."""
 from collections import namedtuple
 
-from reference import COST, ESTIMATE, GOALS, arc, estimate, head, job, record
+from reference import COST, ESTIMATE, FACTORS, GOALS, LENGTH, arc, estimate, head, job, measured, record
 
 Graph = namedtuple('Graph', 'places arcs goals')
 
@@ -23,9 +23,25 @@ def any_estimates(rnd, graph):
     return [0 if v in graph.goals else rnd.randint(0, high) for v in range(graph.places)]
 
 
+def classes(cost):
+    """the classes in which a lane of some length has this cost"""
+    return [c for c, factor in enumerate(FACTORS) if cost % factor == 0 and cost // factor <= LENGTH]
+
+
+def as_measured(start, end, cost, class_):
+    return measured(start, end, cost // FACTORS[class_], class_)
+
+
+def lane(rnd, start, end, cost):
+    """an arc of either kind"""
+    if classes(cost) and rnd.random() < 0.5:
+        return as_measured(start, end, cost, rnd.choice(classes(cost)))
+    return arc(start, end, cost)
+
+
 def records_before_job(rnd, graph, estimates):
-    """arcs and estimates mix freely; an estimate of 0 has a record now and then"""
-    mixed = [arc(*a) for a in graph.arcs] + [estimate(v, h) for v, h in enumerate(estimates) if h != 0 or rnd.random() < 0.2]
+    """arcs of both kinds and estimates mix freely; an estimate of 0 has a record now and then"""
+    mixed = [lane(rnd, *a) for a in graph.arcs] + [estimate(v, h) for v, h in enumerate(estimates) if h != 0 or rnd.random() < 0.2]
     rnd.shuffle(mixed)
     return [head(graph.places, len(graph.arcs)), *mixed]
 

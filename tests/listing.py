@@ -1,5 +1,5 @@
 #!/usr/bin/env python3
-"""Turns a listing, a map and its job written as text, into the records of document 01, and back:
+"""Turns a listing, a map and its job written as text, into the records of an input, and back:
 
 listing.py records < LISTING > INPUT
 listing.py listing < INPUT > LISTING
@@ -8,19 +8,20 @@ A line of a listing is one record; what follows a # is a comment.
 
     places 4                            the head; its M is the number of arc lines, unless one is given: places 4 arcs 7
     arc from 0 to 1 cost 1
+    arc from 0 to 1 length 30 class 2
     estimate at 1 is 4
     job start 0 allowance 944 goals 3   several goals: goals 3 5 9
-    record 6 01 00 FF                   any other record: its kind, then its body in hex
+    record 9 01 00 FF                   any other record: its kind, then its body in hex
     bytes 0A 00 04                      bytes that are no whole record, in hex
 
 Every input has a listing that gives it back, a damaged one too."""
 import sys
 
-from reference import arc, estimate, fits, frame, head, job, record, u16, u32
+from reference import arc, estimate, fits, frame, head, is_arc, is_known, job, measured, record, u16, u32
 
 FORMS = {
     'places': 'places N, or places N arcs M',
-    'arc': 'arc from PLACE to PLACE cost NUMBER',
+    'arc': 'arc from PLACE to PLACE cost NUMBER, or .. length NUMBER class NUMBER',
     'estimate': 'estimate at PLACE is NUMBER',
     'job': 'job start PLACE allowance NUMBER goals PLACE ...',
     'record': 'record KIND HEX ...',
@@ -29,7 +30,7 @@ FORMS = {
 
 
 def number(word, size):
-    """a number that fits a field of so many bytes; what document 01 refuses in it is let through"""
+    """a number that fits a field of so many bytes; what the papers refuse in it is let through"""
     if not (word.isascii() and word.isdigit() and int(word) < 256 ** size):
         raise ValueError(f'{word!r} is not a number from 0 to {256 ** size - 1}')
     return int(word)
@@ -55,6 +56,8 @@ def encode(words, arcs):
             return head(*numbers(n, m))
         case ['arc', 'from', u, 'to', v, 'cost', c]:
             return arc(*numbers(u, v, c))
+        case ['arc', 'from', u, 'to', v, 'length', l, 'class', c]:
+            return measured(*numbers(u, v, l, c))
         case ['estimate', 'at', v, 'is', h]:
             return estimate(number(v, 2), number(h, 4))
         case ['job', 'start', s, 'allowance', a, 'goals', *goals]:
@@ -87,12 +90,14 @@ def records(text):
 
 def decode(kind, body, arcs):
     """one record's line, in a listing of so many arc lines"""
-    if not 1 <= kind <= 4 or not fits(kind, body):
+    if not is_known(kind) or not fits(kind, body):
         return f'record {kind} {body.hex(" ").upper()}'.rstrip()
     if kind == 1:
         return f'places {u16(body, 0)}' + (f' arcs {u16(body, 2)}' if u16(body, 2) != arcs else '')
     if kind == 2:
         return f'arc from {u16(body, 0)} to {u16(body, 2)} cost {u16(body, 4)}'
+    if kind == 5:
+        return f'arc from {u16(body, 0)} to {u16(body, 2)} length {u16(body, 4)} class {u16(body, 6)}'
     if kind == 3:
         return f'estimate at {u16(body, 0)} is {u32(body, 2)}'
     return ' '.join([f'job start {u16(body, 0)} allowance {u32(body, 2)} goals', *(str(u16(body, i)) for i in range(8, len(body), 2))])
@@ -100,7 +105,7 @@ def decode(kind, body, arcs):
 
 def listing(data):
     whole, _ = frame(data)
-    arcs = sum(kind == 2 and fits(kind, body) for kind, body in whole)
+    arcs = sum(is_arc(kind) and fits(kind, body) for kind, body in whole)
     lines = [decode(kind, body, arcs) for kind, body in whole]
     tail = data[sum(4 + len(body) for _, body in whole):]
     if tail:

@@ -85,9 +85,9 @@ class Test {
             return false;
         for (uint32_t i = 12; i < comparison_.answer.sheet_bytes; i += 2) {
             uint32_t next = plain::u16(sheet + i), least = plain::none;
-            for (auto [from, to, c] : map_.arcs)
-                if (from == at && to == next)
-                    least = std::min(least, c);
+            for (const Arc &a : map_.arcs)
+                if (a.from == at && a.to == next)
+                    least = std::min(least, a.cost);
             if (least == plain::none)
                 return false;
             cost += least;

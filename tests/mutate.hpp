@@ -42,7 +42,7 @@ class Mutator {
     {
         uint32_t arcs = 0;
         for (const Record &r : records_)
-            arcs += r.size() == 10 && r[2] == 2;
+            arcs += (r.size() == 10 && r[2] == 2) || (r.size() == 12 && r[2] == 5);
         if (!empty() && records_[0].size() == 8 && below(32) != 0)
             plain::put16(&records_[0][6], arcs);
         size_t length = 0;
@@ -74,9 +74,27 @@ class Mutator {
         case 1:
             r[2] ^= 1; // an arc to an estimate and back
             break;
+        case 2:
+            change_kind(r);
+            break;
         default:
             plain::put16(field, below(2) == 0 ? below(places + 1) : plain::u16(field) + below(9) - 4);
         }
+    }
+
+    // gives an arc a class, or takes it away
+    void change_kind(Record &r)
+    {
+        if (r.size() == 10 && r[2] == 2) {
+            r.resize(12);
+            plain::put16(&r[10], below(9));
+        } else if (r.size() == 12 && r[2] == 5) {
+            r.resize(10);
+        } else {
+            return;
+        }
+        plain::put16(&r[0], static_cast<uint32_t>(r.size()) - 4);
+        r[2] ^= 7; // 2 to 5 and back
     }
 
     std::minstd_rand chance_;

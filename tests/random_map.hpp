@@ -43,12 +43,20 @@ class Maps {
             if (way == 0 && i != 0)
                 m.arcs.push_back(m.arcs.back()); // a parallel arc
             else
-                m.arcs.push_back({from, way == 1 ? from : (from + 1 + below(reach)) % m.places, 0});
+                m.arcs.push_back({from, way == 1 ? from : (from + 1 + below(reach)) % m.places, 0, plain::none});
             m.arcs.back().cost = 1 + below(dear);
+            m.arcs.back().lane_class = some_class(m.arcs.back().cost);
         }
         auto to_goal = [&](const Arc &a) { return std::binary_search(m.goals.begin(), m.goals.end(), a.to); };
         if (below(8) == 0) // no goal can be reached, unless it is the start
             m.arcs.erase(std::remove_if(m.arcs.begin(), m.arcs.end(), to_goal), m.arcs.end());
+    }
+
+    // none for half of the arcs
+    uint32_t some_class(uint32_t cost)
+    {
+        std::vector<uint32_t> all = classes(cost);
+        return all.empty() || below(2) == 0 ? plain::none : all[below(all.size())];
     }
 
     void add_estimates(Map &m, Kind kind, uint32_t dear)

@@ -1,7 +1,16 @@
-"""Document 01 once more, in Python and as plainly as possible: the second source that tests hold the router's answers against."""
+"""Document 01 and document 02's paper 1 once more, in Python and as plainly as possible: the second source that tests hold the router's answers
+against."""
 import heapq
 
 PLACES, ARCS, COST, ESTIMATE, GOALS = 4096, 16384, 65535, 268435455, 64
+LENGTH, FACTORS = 4095, (1, 2, 3, 4, 6, 8, 12, 16)
+
+# how long a body is, by its kind; a job's depends on its goals
+SIZES = {1: 4, 2: 6, 3: 6, 5: 8}
+JOB = 4
+
+# the refusals in the order in which they are looked for
+ORDER = (*range(1, 10), 20, *range(10, 16))
 
 
 def u16(b, i):
@@ -28,12 +37,16 @@ def arc(start, end, cost):
     return record(2, p16(start) + p16(end) + p16(cost))
 
 
+def measured(start, end, length, class_):
+    return record(5, p16(start) + p16(end) + p16(length) + p16(class_))
+
+
 def estimate(place, value):
     return record(3, p16(place) + value.to_bytes(4, 'little'))
 
 
 def job(start, allowance, goals, count=None):
-    return record(4, p16(start) + allowance.to_bytes(4, 'little') + p16(len(goals) if count is None else count) + b''.join(map(p16, goals)))
+    return record(JOB, p16(start) + allowance.to_bytes(4, 'little') + p16(len(goals) if count is None else count) + b''.join(map(p16, goals)))
 
 
 def frame(data):
@@ -48,17 +61,29 @@ def frame(data):
 
 
 def fits(kind, body):
-    if kind == 4:
+    if kind == JOB:
         return len(body) >= 8 and len(body) == 8 + 2 * u16(body, 6)
-    return len(body) == {1: 4, 2: 6, 3: 6}[kind]
+    return len(body) == SIZES[kind]
+
+
+def is_known(kind):
+    return kind == JOB or kind in SIZES
+
+
+def is_arc(kind):
+    return kind in (2, 5)
+
+
+def cost_of(kind, body):
+    return u16(body, 4) if kind == 2 else u16(body, 4) * FACTORS[u16(body, 6)]
 
 
 def refusal(data, words, sheet):
-    """the lowest number of 1 to 15 whose condition holds, or 0"""
+    """the first number in the order whose condition holds, or 0"""
     records, broken = frame(data)
     if broken:
         return 1
-    if any(not 1 <= k <= 4 for k, _ in records):
+    if not all(is_known(k) for k, _ in records):
         return 2
     if any(not fits(k, b) for k, b in records):
         return 3
@@ -66,19 +91,21 @@ def refusal(data, words, sheet):
     if kinds[:1] != [1] or kinds.count(1) > 1:
         return 4
     n, m = u16(records[0][1], 0), u16(records[0][1], 2)
-    if not 1 <= n <= PLACES or m > ARCS or m != kinds.count(2):
+    if not 1 <= n <= PLACES or m > ARCS or m != sum(map(is_arc, kinds)):
         return 5
-    arcs = [(u16(b, 0), u16(b, 2), u16(b, 4)) for k, b in records if k == 2]
+    arcs = [(u16(b, 0), u16(b, 2)) for k, b in records if is_arc(k)]
     estimates = [(u16(b, 0), u32(b, 2)) for k, b in records if k == 3]
-    if any(u >= n or v >= n for u, v, _ in arcs) or any(v >= n for v, _ in estimates):
+    if any(u >= n or v >= n for u, v in arcs) or any(v >= n for v, _ in estimates):
         return 6
-    if any(c == 0 for _, _, c in arcs):
+    if any(k == 2 and u16(b, 4) == 0 for k, b in records):
         return 7
     if any(h > ESTIMATE for _, h in estimates):
         return 8
     if len({v for v, _ in estimates}) < len(estimates):
         return 9
-    if kinds.count(4) != 1 or kinds[-1] != 4:
+    if any(k == 5 and not (1 <= u16(b, 4) <= LENGTH and u16(b, 6) < len(FACTORS)) for k, b in records):
+        return 20
+    if kinds.count(JOB) != 1 or kinds[-1] != JOB:
         return 10
     body = records[-1][1]
     goals = [u16(body, i) for i in range(8, len(body), 2)]
@@ -101,8 +128,8 @@ class Problem:
         self.out = [[] for _ in range(self.n)]
         self.into = [[] for _ in range(self.n)]
         for kind, b in records:
-            if kind == 2:
-                u, v, c = u16(b, 0), u16(b, 2), u16(b, 4)
+            if is_arc(kind):
+                u, v, c = u16(b, 0), u16(b, 2), cost_of(kind, b)
                 self.out[u].append((v, c))
                 self.into[v].append((u, c))
             if kind == 3:

@@ -4,6 +4,7 @@ use mathlib.Core.Logic.{_⊎_, inl, inr}
 use mathlib.Core.Bool.{true}
 use mathlib.Core.List.{List}
 use Prim.Native.Nat.{ℕ, _≤_}
+use native.Mathlib.Decide.{ℕ-discrete}
 use native.Mathlib.Omega.{arith}
 use lib.ListN.{length, replicate}
 use borrow.Author.Tests.{le-leb, lt-leb, ne-eqb}
@@ -21,9 +22,9 @@ module _ (n : ℕ) where
   unfolding lampOf
   amber l m = rw (ne-eqb n 0 (λ e. omega arith), lt-leb n 13 (omega arith), le-leb 1 n (omega arith), le-leb 14 n l, le-leb n 15 m)
 
-  pub red-high : 18 ≤ n → n ≤ 19 → Red ≡ lampOf n
+  red-sheet : 18 ≤ n → n ≤ 19 → Red ≡ lampOf n
   unfolding lampOf
-  red-high l m =
+  red-sheet l m =
       rw (
         ne-eqb n 0 (λ e. omega arith),
         le-leb 1 n (omega arith),
@@ -36,7 +37,18 @@ module _ (n : ℕ) where
         le-leb n 19 m,
       )
 
-  pub dark : 20 ≤ n → Dark ≡ lampOf n
+  red-later : n ≡ 20 → Red ≡ lampOf n
+  unfolding lampOf
+  red-later e = rw e
+
+  pub red-high : 18 ≤ n → n ≤ 20 → Red ≡ lampOf n
+  red-high l m = go (ℕ-discrete n 20)
+    where
+      go : Dec (n ≡ 20) → Red ≡ lampOf n
+      go (yes e) = red-later e
+      go (no h) = red-sheet l (omega arith)
+
+  pub dark : 21 ≤ n → Dark ≡ lampOf n
   unfolding lampOf
   dark l =
       rw (
@@ -48,7 +60,8 @@ module _ (n : ℕ) where
         ne-eqb n 16 (λ e. omega arith),
         ne-eqb n 17 (λ e. omega arith),
         le-leb 18 n (omega arith),
-        lt-leb n 19 l,
+        lt-leb n 19 (omega arith),
+        ne-eqb n 20 (λ e. omega arith),
       )
 
 module _ (r : Reading) (light : Lamp) (is : light ≡ lampOf (r .number)) where

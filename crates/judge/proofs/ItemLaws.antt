@@ -17,12 +17,13 @@ use Rattle.judge.proofs.NumberLaws.{Joined, none as end, more}
 use Rattle.judge.proofs.MarkLaws.{placesIn}
 use Rattle.map.specs.declared.record as declared
 use Rattle.map.specs.declared.record.Item.{Item}
-use Rattle.map.specs.declared.record.Item.the-variants.{Head, Lane, Estimate, Job, Misfit, Other}
+use Rattle.map.specs.declared.record.Item.the-variants.{Head, Lane, Measured, Estimate, Job, Misfit, Other}
 use Rattle.map.specs.Items.{isMisfit, meant}
 use Rattle.model.specs.Items as model
 use Rattle.model.specs.Limits.{maxEstimate}
 use Rattle.model.specs.Lists.{any, isGiven, consIf, filterMap, member, repeats}
-use Rattle.model.specs.Refusals.{Row, outsideMap, isFree, freeArc, largeEstimate, twoEstimates, beginsWithHead, wrongHead, endsWithJob, mapRows}
+use Rattle.model.specs.Refusals.{Row, outsideMap, isFree, freeArc, largeEstimate, twoEstimates, mismeasured, wrongMeasure, mapRows}
+use Rattle.model.specs.Refusals.{beginsWithHead, wrongHead, endsWithJob}
 use Rattle.model.specs.Stated.{statedBy}
 
 -- ---- What they state
@@ -101,6 +102,7 @@ stray-head i is = go (model.sizeIn i) (some-head is)
 unfoldable pub isOther : Item → Bool
 isOther (Head z) = false
 isOther (Lane l) = false
+isOther (Measured l) = false
 isOther (Estimate e) = false
 isOther (Job j) = false
 isOther Misfit = false
@@ -120,6 +122,7 @@ own unknown misfit first n places j =
     ∷ row 7 (freeArc s)
     ∷ row 8 (largeEstimate s)
     ∷ row 9 (any (λ (e : model.Estimate). member (e .place) places) (s .estimates))
+    ∷ row 20 (wrongMeasure s)
     ∷ []
 
 stray-snoc : (is : List model.Item) (j : model.Item) → stray (is ++ (j ∷ [])) ≡ (stray is || strayAt (eqb (length is) 0) j)
@@ -157,7 +160,7 @@ outside-snoc n is j =
 pub joined : (U W u w : Bool) (n : ℕ) (is : List model.Item) (j : model.Item)
     → Joined noNumber 1 (itemRows U W n is) (own u w (eqb (length is) 0) n (placesIn (filterMap model.estimateIn is)) j)
     (itemRows (U || u) (W || w) n (is ++ (j ∷ [])))
-unfolding itemRows own mapRows placed statedBy outsideMap freeArc largeEstimate twoEstimates
+unfolding itemRows own mapRows placed statedBy outsideMap freeArc largeEstimate twoEstimates wrongMeasure
 joined U W u w n is j =
     more 2 refl refl
     (more 3 refl refl
@@ -165,7 +168,8 @@ joined U W u w n is j =
     (more 6 refl (outside-snoc n is j)
     (more 7 refl (any-filterMap-append model.laneIn _ is (j ∷ []))
     (more 8 refl (any-filterMap-append model.estimateIn _ is (j ∷ []))
-    (more 9 refl (twice-snoc is j) (end refl)))))))
+    (more 9 refl (twice-snoc is j)
+    (more 20 refl (any-filterMap-append model.laneIn _ is (j ∷ [])) (end refl))))))))
 
 -- an estimate's place has an estimate already
 abbrev pub Again : Bool → ℕ → List ℕ → Bool → Item → Type 0
@@ -175,12 +179,15 @@ Again first n places again i =
 -- what an item is given is the number of the conditions that it meets
 pub own-given : (input : List ℕ) (first : Bool) (n : ℕ) (places : List ℕ) (again : Bool) (i : Item) → Again first n places again i
     → numberOr noNumber (own (isOther i) (isMisfit i) first n places (meant input i)) ≡ given first n again i
-unfolding numberOr own strayAt isOther isMisfit meant given placed statedBy outsideMap freeArc largeEstimate isFree
+unfolding numberOr own strayAt isOther isMisfit meant given placed statedBy outsideMap freeArc isFree
+    largeEstimate wrongMeasure mismeasured
     filterMap consIf any isGiven model.sizeIn model.laneIn model.estimateIn model.jobIn
 own-given input true n places again (Head z) h = refl
 own-given input false n places again (Head z) h = refl
 own-given input true n places again (Lane l) h = refl
 own-given input false n places again (Lane l) h = simp or-false
+own-given input true n places again (Measured l) h = refl
+own-given input false n places again (Measured l) h = simp or-false
 own-given input true n places again (Estimate e) h = refl
 own-given input false n places again (Estimate e) h = simp or-false (go (leb n (e .place)) refl)
   where
@@ -201,6 +208,7 @@ pub given-first : (n m : ℕ) (a b : Bool) (i : Item) → given true n a i ≡ g
 unfolding given
 given-first n m a b (Head z) = refl
 given-first n m a b (Lane l) = refl
+given-first n m a b (Measured l) = refl
 given-first n m a b (Estimate e) = refl
 given-first n m a b (Job j) = refl
 given-first n m a b Misfit = refl

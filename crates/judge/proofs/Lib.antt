@@ -1,4 +1,4 @@
--- Laws of the passes, and how their results give document 01's number.
+-- Laws of the passes, and how their results give the papers' number.
 pub mod NumberLaws
 pub mod MarkLaws
 pub mod ItemLaws

@@ -19,14 +19,14 @@ use Rattle.judge.proofs.MarkLaws.{placesIn, marked-length, marked-membe
 use Rattle.judge.proofs.ItemLaws.{ends-snoc, last-snoc, isOther, joined, Again, own-given, given-first}
 use Rattle.map.specs.declared.record as declared
 use Rattle.map.specs.declared.record.Item.{Item}
-use Rattle.map.specs.declared.record.Item.the-variants.{Head, Lane, Estimate, Job, Misfit, Other}
+use Rattle.map.specs.declared.record.Item.the-variants.{Head, Lane, Measured, Estimate, Job, Misfit, Other}
 use Rattle.map.specs.Records.{recordIn}
 use Rattle.map.specs.Items.{isMisfit, jobOf, meant, Says}
 use Rattle.model.specs.Framing.{Record}
 use Rattle.model.specs.Items as model
 use Rattle.model.specs.Limits.{maxPlaces}
 use Rattle.model.specs.Lists.{any, isGiven, consIf, filterMap, repeats}
-use Rattle.model.specs.Refusals.{Row, unknownKind, wrongLength, outsideMap, freeArc, largeEstimate, twoEstimates, mapRows}
+use Rattle.model.specs.Refusals.{Row, unknownKind, wrongLength, outsideMap, freeArc, largeEstimate, twoEstimates, wrongMeasure, mapRows}
 use Rattle.model.specs.Stated.{statedBy}
 
 -- ---- What a record says
@@ -35,6 +35,7 @@ nothing-meant : (input : List ℕ) (i : Item) → isMisfit i ≡ true → meant 
 unfolding isMisfit meant
 nothing-meant input (Head z) e = absurd (false≢true e)
 nothing-meant input (Lane l) e = absurd (false≢true e)
+nothing-meant input (Measured l) e = absurd (false≢true e)
 nothing-meant input (Estimate e) f = absurd (false≢true f)
 nothing-meant input (Job j) e = absurd (false≢true e)
 nothing-meant input Misfit e = refl
@@ -69,6 +70,7 @@ module _ (input : List ℕ) (r : declared.Record.Record) (i : Item) (says : Says
           → not (isGiven (model.bodyLength (model.itemOf whole))) ≡ isOther i
       go (Head z) e f = rw (f refl)
       go (Lane l) e f = rw (f refl)
+      go (Measured l) e f = rw (f refl)
       go (Estimate x) e f = rw (f refl)
       go (Job j) e f = rw (f refl)
       go Misfit e f = rw (misfit-known whole e)
@@ -89,6 +91,7 @@ module _ (input : List ℕ) (again : Bool) (s : Survey) where
       go true = refl
       go false = refl
   noted-number (Lane l) = refl
+  noted-number (Measured l) = refl
   noted-number (Estimate e) = refl
   noted-number (Job j) = refl
   noted-number Misfit = refl
@@ -98,6 +101,7 @@ module _ (input : List ℕ) (again : Bool) (s : Survey) where
   unfolding noted withHead withLane withJob
   noted-records (Head z) = either (λ t. t .records) (eqb (s .records) 0) _ _ _ refl refl
   noted-records (Lane l) = refl
+  noted-records (Measured l) = refl
   noted-records (Estimate e) = refl
   noted-records (Job j) = refl
   noted-records Misfit = refl
@@ -107,6 +111,7 @@ module _ (input : List ℕ) (again : Bool) (s : Survey) where
   unfolding noted withHead withLane withJob meant filterMap consIf model.laneIn
   noted-lanes (Head z) = either (λ t. t .lanes) (eqb (s .records) 0) _ _ _ (omega arith) (omega arith)
   noted-lanes (Lane l) = refl
+  noted-lanes (Measured l) = refl
   noted-lanes (Estimate e) = omega arith
   noted-lanes (Job j) = omega arith
   noted-lanes Misfit = omega arith
@@ -116,6 +121,7 @@ module _ (input : List ℕ) (again : Bool) (s : Survey) where
   unfolding noted withHead withLane withJob meant filterMap consIf model.jobIn
   noted-jobs (Head z) = either (λ t. t .jobs) (eqb (s .records) 0) _ _ _ (omega arith) (omega arith)
   noted-jobs (Lane l) = omega arith
+  noted-jobs (Measured l) = omega arith
   noted-jobs (Estimate e) = omega arith
   noted-jobs (Job j) = refl
   noted-jobs Misfit = omega arith
@@ -125,6 +131,7 @@ module _ (input : List ℕ) (again : Bool) (s : Survey) where
   unfolding noted withHead withLane withJob meant model.jobIn isGiven
   noted-last (Head z) = either (λ t. t .«job_last») (eqb (s .records) 0) _ _ _ refl refl
   noted-last (Lane l) = refl
+  noted-last (Measured l) = refl
   noted-last (Estimate e) = refl
   noted-last (Job j) = refl
   noted-last Misfit = refl
@@ -134,6 +141,7 @@ module _ (input : List ℕ) (again : Bool) (s : Survey) where
   unfolding noted withHead withLane withJob meant model.jobIn
   noted-job (Head z) = either (λ t. jobOf input (t .job)) (eqb (s .records) 0) _ _ _ refl refl
   noted-job (Lane l) = refl
+  noted-job (Measured l) = refl
   noted-job (Estimate e) = refl
   noted-job (Job j) = refl
   noted-job Misfit = refl
@@ -146,6 +154,7 @@ module _ (input : List ℕ) (again : Bool) (s : Survey) where
   unfolding noted withHead withLane withJob meant model.sizeIn
   noted-opens first p a (Head z) = rw first (refl, refl)
   noted-opens first p a (Lane l) = (p, a)
+  noted-opens first p a (Measured l) = (p, a)
   noted-opens first p a (Estimate e) = (p, a)
   noted-opens first p a (Job j) = (p, a)
   noted-opens first p a Misfit = (p, a)
@@ -155,6 +164,7 @@ module _ (input : List ℕ) (again : Bool) (s : Survey) where
   unfolding noted withHead withLane withJob
   noted-keeps later (Head z) = rw later (refl, refl)
   noted-keeps later (Lane l) = (refl, refl)
+  noted-keeps later (Measured l) = (refl, refl)
   noted-keeps later (Estimate e) = (refl, refl)
   noted-keeps later (Job j) = (refl, refl)
   noted-keeps later Misfit = (refl, refl)
@@ -164,6 +174,7 @@ marks-length : (n : ℕ) (m : List ℕ) (i : Item) → length (marksBy n m i) �
 unfolding marksBy
 marks-length n m (Head z) = refl
 marks-length n m (Lane l) = refl
+marks-length n m (Measured l) = refl
 marks-length n m (Estimate e) = marked-length n m (e .place) (e .value)
 marks-length n m (Job j) = refl
 marks-length n m Misfit = refl
@@ -218,6 +229,7 @@ module _ (input : List ℕ) (rs : List Record) (m : List ℕ) (s : Survey) (note
           rw (clear, none) (sym (nothing-yet (ltb v (fewPlaces (z .places)))))
       go false e = notes .mark v
   noted-marks again (Lane l) v = rw (append-nil es) (notes .mark v)
+  noted-marks again (Measured l) v = rw (append-nil es) (notes .mark v)
   noted-marks again (Estimate e) v = marked-after (s .places) es m (notes .mark) marks-room (record { place = e .place; value = e .value }) v
   noted-marks again (Job j) v = rw (append-nil es) (notes .mark v)
   noted-marks again Misfit v = rw (append-nil es) (notes .mark v)
@@ -247,7 +259,8 @@ module _ (input : List ℕ) (rs : List Record) (m : List ℕ) (s : Survey) (note
 
     -- before the first record the map's places do not count
     no-rows : rs ≡ [] → (n : ℕ) → numberOr noNumber (rowsBefore n) ≡ noNumber
-    unfolding itemRows numberOr said model.items unknownKind wrongLength stray mapRows placed statedBy outsideMap freeArc largeEstimate twoEstimates
+    unfolding itemRows numberOr said model.items unknownKind wrongLength stray mapRows placed statedBy outsideMap freeArc largeEstimate
+        twoEstimates wrongMeasure
         filterMap any repeats
     no-rows e n = rw e
 

@@ -20,7 +20,7 @@ use Rattle.judge.proofs.SurveyLaws.{either, count, few-places, nothing-
 use Rattle.map.specs.declared.record as declared
 use Rattle.map.specs.declared.record.Read.the-variants.{Whole, Broken, End}
 use Rattle.map.specs.declared.record.Item.{Item}
-use Rattle.map.specs.declared.record.Item.the-variants.{Head, Lane, Estimate, Job, Misfit, Other}
+use Rattle.map.specs.declared.record.Item.the-variants.{Head, Lane, Measured, Estimate, Job, Misfit, Other}
 use Rattle.map.specs.Records.{readAt, recordIn}
 use Rattle.map.specs.Items.{jobOf, endBy, EndsBy, LiesIn, Says}
 use Rattle.map.proofs.Records.{frame-end, frame-broken, frame-whole}
@@ -29,7 +29,7 @@ use Rattle.model.specs.Framing.{Record, Framed, stop, push, frame}
 use Rattle.model.specs.Items as model
 use Rattle.model.specs.Lists.{any, filterMap, repeats}
 use Rattle.model.specs.Refusals.{unknownKind, wrongLength, beginsWithHead, wrongHead, endsWithJob, formRows, mapRows, firstThatHolds, holdsAt}
-use Rattle.model.specs.Refusals.{outsideMap, freeArc, largeEstimate, twoEstimates}
+use Rattle.model.specs.Refusals.{outsideMap, freeArc, largeEstimate, twoEstimates, wrongMeasure}
 use Rattle.model.specs.Stated.{statedBy, stated}
 use Rattle.model.proofs.Lists.{neither}
 use Rattle.model.proofs.Rows.{row-fails}
@@ -50,7 +50,8 @@ empty =
     }
 
 notes-start : (input marks : List ℕ) → Clear marks → Notes input [] marks empty
-unfolding itemRows numberOr said model.items unknownKind wrongLength stray mapRows placed statedBy outsideMap freeArc largeEstimate twoEstimates
+unfolding itemRows numberOr said model.items unknownKind wrongLength stray mapRows placed statedBy outsideMap freeArc largeEstimate
+    twoEstimates wrongMeasure
     filterMap any repeats opening endsWithJob lastJob jobOf u16s firstMark
 notes-start input marks clear =
     record {
@@ -87,6 +88,7 @@ unfolding noted withHead withLane withJob endBy
 noted-ends again s r (Head z) e last =
     absurd (false≢true (sym (either (λ t. t .«job_last») (eqb (s .records) 0) _ _ false refl refl) ∙ last))
 noted-ends again s r (Lane l) e last = absurd (false≢true last)
+noted-ends again s r (Measured l) e last = absurd (false≢true last)
 noted-ends again s r (Estimate x) e last = absurd (false≢true last)
 noted-ends again s r (Job j) e last = e
 noted-ends again s r Misfit e last = absurd (false≢true last)

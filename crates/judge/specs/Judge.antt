@@ -1,4 +1,4 @@
--- What a judgement says: document 01's number, and of an accepted input what it states.
+-- What a judgement says: the papers' number, and of an accepted input what it states.
 use mathlib.Core.Path.{_≡_}
 use mathlib.Core.List.{List}
 use Prim.Native.Nat.{ℕ, _≤_}

@@ -11,11 +11,11 @@ use Rattle.judge.specs.Numbers.{noNumber, numberOr}
 use Rattle.judge.specs.Marks.{firstMark, marked, markedBy}
 use Rattle.map.specs.declared.record as declared
 use Rattle.map.specs.declared.record.Item.{Item}
-use Rattle.map.specs.declared.record.Item.the-variants.{Head, Lane, Estimate, Job, Misfit, Other}
+use Rattle.map.specs.declared.record.Item.the-variants.{Head, Lane, Measured, Estimate, Job, Misfit, Other}
 use Rattle.map.specs.Items.{jobOf}
 use Rattle.model.specs.Framing.{Record, frame}
 use Rattle.model.specs.Items as model
-use Rattle.model.specs.Limits.{maxPlaces, maxEstimate}
+use Rattle.model.specs.Limits.{maxPlaces, maxEstimate, maxLength, maxClass}
 use Rattle.model.specs.Lists.{any, isGiven, filterMap}
 use Rattle.model.specs.Refusals.{Row, row, unknownKind, wrongLength, endsWithJob, formRows, mapRows, firstThatHolds}
 use Rattle.model.specs.Stated.{Stated, noSize, noJob, statedBy, statedIn, lookup}
@@ -26,8 +26,15 @@ use Rattle.model.specs.Stated.{Stated, noSize, noJob, statedBy, statedIn, looku
 abbrev pub headless : Bool → ℕ
 headless first = cond first 4 noNumber
 
-abbrev pub laneNumber : Bool → ℕ → declared.Lane.Lane → ℕ
-laneNumber first n l = cond first 4 (cond (leb n (l .from) || leb n (l .to)) 6 (cond (eqb (l .cost) 0) 7 noNumber))
+abbrev pub costNumber : ℕ → ℕ
+costNumber cost = cond (eqb cost 0) 7 noNumber
+
+abbrev pub measureNumber : (length class : ℕ) → ℕ
+measureNumber length class = cond (ltb length 1 || ltb maxLength length || ltb maxClass class) 20 noNumber
+
+-- own: what its cost or its measure is given
+abbrev pub laneNumber : Bool → (n from to own : ℕ) → ℕ
+laneNumber first n from to own = cond first 4 (cond (leb n from || leb n to) 6 own)
 
 -- again: its place has an estimate already
 abbrev pub estimateNumber : Bool → ℕ → Bool → declared.Estimate.Estimate → ℕ
@@ -36,7 +43,8 @@ estimateNumber first n again e =
 
 unfoldable pub given : Bool → ℕ → Bool → Item → ℕ
 given first n again (Head z) = cond first noNumber 4
-given first n again (Lane l) = laneNumber first n l
+given first n again (Lane l) = laneNumber first n (l .from) (l .to) (costNumber (l .cost))
+given first n again (Measured l) = laneNumber first n (l .from) (l .to) (measureNumber (l .length) (l .class))
 given first n again (Estimate e) = estimateNumber first n again e
 given first n again (Job j) = headless first
 given first n again Misfit = 3
@@ -78,9 +86,9 @@ opened s z =
 unfoldable pub withHead : Survey → declared.Size.Size → Survey
 withHead s z = cond (eqb (s .records) 0) (opened (passed s noNumber) z) (passed s 4)
 
-unfoldable pub withLane : Survey → declared.Lane.Lane → Survey
-withLane s l =
-    let t = passed s (laneNumber (eqb (s .records) 0) (s .places) l) in
+unfoldable pub withLane : Survey → (from to own : ℕ) → Survey
+withLane s from to own =
+    let t = passed s (laneNumber (eqb (s .records) 0) (s .places) from to own) in
     record {
       number = t .number;
       records = t .records;
@@ -108,7 +116,8 @@ withJob s j =
 
 unfoldable pub noted : Bool → Survey → Item → Survey
 noted again s (Head z) = withHead s z
-noted again s (Lane l) = withLane s l
+noted again s (Lane l) = withLane s (l .from) (l .to) (costNumber (l .cost))
+noted again s (Measured l) = withLane s (l .from) (l .to) (measureNumber (l .length) (l .class))
 noted again s (Estimate e) = passed s (estimateNumber (eqb (s .records) 0) (s .places) again e)
 noted again s (Job j) = withJob s j
 noted again s Misfit = passed s 3
@@ -118,6 +127,7 @@ noted again s Other = passed s 2
 unfoldable pub againIn : ℕ → List ℕ → Item → Bool
 againIn n marks (Head z) = false
 againIn n marks (Lane l) = false
+againIn n marks (Measured l) = false
 againIn n marks (Estimate e) = marked n marks (e .place)
 againIn n marks (Job j) = false
 againIn n marks Misfit = false
@@ -127,6 +137,7 @@ againIn n marks Other = false
 unfoldable pub marksBy : ℕ → List ℕ → Item → List ℕ
 marksBy n marks (Head z) = marks
 marksBy n marks (Lane l) = marks
+marksBy n marks (Measured l) = marks
 marksBy n marks (Estimate e) = markedBy n marks (e .place) (e .value)
 marksBy n marks (Job j) = marks
 marksBy n marks Misfit = marks
@@ -190,7 +201,7 @@ placed n s =
       job = s .job;
     }
 
--- the conditions of 2 to 4 and 6 to 9, of items on a map of n places
+-- the conditions of 2 to 4, 6 to 9 and 20, of items on a map of n places
 unfoldable pub itemRows : (unknown misfit : Bool) → ℕ → List model.Item → List Row
 itemRows unknown misfit n is = row 2 unknown ∷ row 3 misfit ∷ row 4 (stray is) ∷ mapRows (placed n (statedBy is))
 

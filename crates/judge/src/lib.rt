@@ -1,4 +1,4 @@
-// Judges an input: the lowest of document 01's numbers 1 to 13 whose condition holds, or what an accepted input states.
+// Judges an input: the first of the papers' numbers 1 to 13 and 20 whose condition holds, or what an accepted input states.
 mod goals;
 mod marks;
 mod numbers;

@@ -7,12 +7,11 @@ use map::record;
 use map::record::Estimate;
 use map::record::Item;
 use map::record::JobFields;
-use map::record::Lane;
 use map::record::Read;
 use map::record::Size;
 ghost use mathlib.Core.Path.{_≡_};
 ghost use Rattle.judge.specs.Marks.{Clear};
-ghost use Rattle.judge.specs.Survey.{fewPlaces, laneNumber, estimateNumber, headless};
+ghost use Rattle.judge.specs.Survey.{fewPlaces, costNumber, measureNumber, laneNumber, estimateNumber, headless};
 ghost use Rattle.judge.specs.Survey.{passed, withHead, withLane, withJob, atEnd, Counted, Noted, Surveyed};
 
 pub struct Survey {
@@ -38,19 +37,35 @@ fn few_places(places: usize) -> usize
     places
 }
 
-fn lane_number(first: bool, places: usize, lane: Lane) -> u32
-    ensures { λ r. ⌜ r ≡ laneNumber first places lane ⌝ }
+fn cost_number(cost: u32) -> u32
+    ensures { λ r. ⌜ r ≡ costNumber cost ⌝ }
+{
+    if cost == 0 {
+        return number::FREE_ARC;
+    }
+    numbers::NONE
+}
+
+fn measure_number(length: u32, class: usize) -> u32
+    ensures { λ r. ⌜ r ≡ measureNumber length class ⌝ }
+{
+    if (length < 1) | (Map::LENGTH < length) | (Map::CLASS < class) {
+        return number::WRONG_MEASURE;
+    }
+    numbers::NONE
+}
+
+// What an arc is given, whose cost or measure is given `own`.
+fn lane_number(first: bool, places: usize, from: usize, to: usize, own: u32) -> u32
+    ensures { λ r. ⌜ r ≡ laneNumber first places from to own ⌝ }
 {
     if first {
         return number::WRONG_HEAD;
     }
-    if (places <= lane.from) | (places <= lane.to) {
+    if (places <= from) | (places <= to) {
         return number::OUTSIDE_MAP;
     }
-    if lane.cost == 0 {
-        return number::FREE_ARC;
-    }
-    numbers::NONE
+    own
 }
 
 fn estimate_number(first: bool, places: usize, e: Estimate, again: bool) -> u32
@@ -106,11 +121,11 @@ fn with_head(s: Survey, size: Size) -> Survey
     t
 }
 
-fn with_lane(s: Survey, lane: Lane) -> Survey
+fn with_lane(s: Survey, from: usize, to: usize, own: u32) -> Survey
     requires { ⌜ Counted s ⌝ }
-    ensures { λ t. ⌜ t ≡ withLane s lane ⌝ }
+    ensures { λ t. ⌜ t ≡ withLane s from to own ⌝ }
 {
-    let mut t = after(s, lane_number(s.records == 0, s.places, lane));
+    let mut t = after(s, lane_number(s.records == 0, s.places, from, to, own));
     t.lanes += 1;
     t
 }
@@ -140,7 +155,13 @@ fn with_item(s: Survey, item: Item, marks: &mut [u8; Map::PLACES]) -> Survey
 {
     match item {
         Item::Head(size) => with_head(s, size),
-        Item::Lane(lane) => with_lane(s, lane),
+        Item::Lane(lane) => with_lane(s, lane.from, lane.to, cost_number(lane.cost)),
+        Item::Measured(lane) => with_lane(
+            s,
+            lane.from,
+            lane.to,
+            measure_number(lane.length, lane.class),
+        ),
         Item::Estimate(e) => with_estimate(s, e, marks),
         Item::Job(job) => with_job(s, job),
         Item::Misfit => after(s, number::WRONG_LENGTH),

@@ -1,6 +1,6 @@
 -- What a record says, kind by kind, read from the whole input. Assumes nothing.
 use mathlib.Core.Path.{_≡_, refl, sym, ap, _∙_}
-use mathlib.Core.Bool.{Bool, true, false, cond, not, _||_, true≢false}
+use mathlib.Core.Bool.{Bool, true, false, cond, not, _&&_, _||_, true≢false}
 use mathlib.Core.List.{List}
 use mathlib.Core.Logic.{_≢_}
 use mathlib.Core.Option.{some}
@@ -8,19 +8,21 @@ use Prim.Native.Nat.{ℕ, _+_, _-_, _*_, _≤_}
 use native.Mathlib.Omega.{arith}
 use lib.Dec.{ltb, eqb}
 use lib.ListN.{length, drop, length-take, length-drop}
-use borrow.Author.Tests.{eq-eqb, ne-eqb, eqb-true, eqb-false, ltb-true, ltb-false}
+use borrow.Author.Tests.{eq-eqb, ne-eqb, eqb-true, eqb-false, ltb-true, ltb-false, not-false}
 use Rattle.map.specs.declared.record as declared
 use Rattle.map.specs.declared.record.Record.{Record}
 use Rattle.map.specs.declared.record.Item.{Item}
-use Rattle.map.specs.declared.record.Item.the-variants.{Head, Lane, Estimate, Job, Misfit, Other}
+use Rattle.map.specs.declared.record.Item.the-variants.{Head, Lane, Measured, Estimate, Job, Misfit, Other}
 use Rattle.map.specs.Records.{recordIn}
-use Rattle.map.specs.Items.{sizeAt, costIn, laneAt, estimateAt, jobAt, isMisfit, jobOf, meant, endBy, LiesIn, Says}
+use Rattle.map.specs.Items.{sizeAt, estimateAt, jobAt, isMisfit, laneMeant, measuredMeant, jobOf, meant, endBy, LiesIn, FitsIn, Says}
 use Rattle.map.proofs.Parts.{u16-drop, u32-drop, u16-part, u32-part, u16s-part}
 use Rattle.model.specs.Bytes.{u16, u32}
 use Rattle.model.specs.Framing as framing
 use Rattle.model.specs.Items as model
 use Rattle.model.proofs.Bytes.{u16s-length}
-use Rattle.model.proofs.Items.{head-item, lane-item, estimate-item, job-item, other-item}
+use Rattle.model.proofs.Lists.{neither, both}
+use Rattle.model.proofs.Items.{KindOf, is-head, is-lane, is-measured, is-estimate, is-job, is-other, kind-of}
+use Rattle.model.proofs.Items.{head-item, lane-item, measured-item, estimate-item, job-item, other-item}
 
 -- the fields of a body that begins at byte `at`, in the input
 module _ (input : List ℕ) (at : ℕ) where
@@ -28,9 +30,21 @@ module _ (input : List ℕ) (at : ℕ) where
   unfolding sizeAt model.headOf
   size-at = rw (u16-drop at input 0 (at + 0) refl, u16-drop at input 2 (at + 2) refl)
 
-  pub lane-at : laneAt input at ≡ record { from = u16 input (at + 0); to = u16 input (at + 2); cost = u16 input (at + 4) }
-  unfolding laneAt costIn model.laneOf
+  pub lane-at : model.laneOf (drop at input)
+      ≡ record { from = u16 input (at + 0); to = u16 input (at + 2); charge = model.flat (u16 input (at + 4)) }
+  unfolding model.laneOf
   lane-at = rw (u16-drop at input 0 (at + 0) refl, u16-drop at input 2 (at + 2) refl, u16-drop at input 4 (at + 4) refl)
+
+  pub measured-at : model.measuredOf (drop at input)
+      ≡ record { from = u16 input (at + 0); to = u16 input (at + 2); charge = model.measured (u16 input (at + 4)) (u16 input (at + 6)) }
+  unfolding model.measuredOf
+  measured-at =
+      rw (
+        u16-drop at input 0 (at + 0) refl,
+        u16-drop at input 2 (at + 2) refl,
+        u16-drop at input 4 (at + 4) refl,
+        u16-drop at input 6 (at + 6) refl,
+      )
 
   pub estimate-at : estimateAt input at ≡ record { place = u16 input (at + 0); value = u32 input (at + 2) }
   unfolding estimateAt model.estimateOf
@@ -48,6 +62,20 @@ module _ (input : List ℕ) (at : ℕ) where
         u32-drop at input 2 (at + 2) refl,
         u16-drop at input 6 (at + 6) refl,
       )
+
+-- kind and length are looked at together
+both-are : (k kind n size : ℕ) → eqb k kind && eqb n size ≡ true → (k ≡ kind) × (n ≡ size)
+both-are k kind n size e = let are = both (eqb k kind) (eqb n size) e in (eqb-true k kind (are .0), eqb-true n size (are .1))
+
+not-both : (k kind n size : ℕ) → eqb k kind && eqb n size ≡ false → k ≡ kind → n ≢ size
+not-both k kind n size e p q = true≢false (rw (eq-eqb k kind p, eq-eqb n size q) at e)
+
+-- the kinds from 1 to 5 are the papers'
+first-kinds : (k : ℕ) → model.headKind ≤ k → k ≢ model.headKind → k ≢ model.arcKind → k ≢ model.estimateKind → model.jobKind ≤ k
+first-kinds k low a b c = omega (arith, a, b, c)
+
+last-kinds : (k : ℕ) → model.jobKind ≤ k → k ≤ model.measuredKind → k ≢ model.jobKind → k ≢ model.measuredKind → ⊥
+last-kinds k low high a b = omega (arith, a, b)
 
 module _ (input : List ℕ) (r : Record) (lies : LiesIn input r) where
   abbrev whole : framing.Record
@@ -74,47 +102,71 @@ module _ (input : List ℕ) (r : Record) (lies : LiesIn input r) where
   fitting-says i n is long h fits ends =
       record { misfit = misfits-by (meant input i) n is long ∙ rw (eq-eqb len n h, fits); item = λ e. is; ends = ends }
 
-  -- a head of four bytes
-  module _ (kind : r .kind ≡ model.headKind) where
-    pub head-misfit : len ≢ model.headBytes → Says input r Misfit
-    unfolding model.bodyLength
-    head-misfit h = misfit-says _ _ (head-item whole kind) refl h
+  -- a record of this kind and length
+  abbrev Fits : ℕ → ℕ → Type 0
+  Fits kind size = eqb (r .kind) kind && eqb len size ≡ true
 
-    pub head-says : len ≡ model.headBytes → Says input r (Head (sizeAt input (r .start)))
-    unfolding model.headOf model.bodyLength meant isMisfit endBy
-    head-says h =
-        let field = u16-part input (r .start) len in
-        let places = field 0 (r .start + 0) (omega arith) refl in
-        let arcs = field 2 (r .start + 2) (omega arith) refl in
-        rw (size-at input (r .start)) (fitting-says (Head _) _ (head-item whole kind ∙ rw (places, arcs)) refl h refl (omega arith))
+  abbrev FitsNot : ℕ → ℕ → Type 0
+  FitsNot kind size = eqb (r .kind) kind && eqb len size ≡ false
+
+  pub body-within : (kind size : ℕ) → Fits kind size → r .start + size ≤ length input
+  body-within kind size fits =
+      let h = both-are (r .kind) kind len size fits .1 in
+      omega (arith, lies .forward, lies .ends)
+
+  -- a head of four bytes
+  pub head-says : Fits model.headKind model.headBytes → Says input r (Head (sizeAt input (r .start)))
+  unfolding model.headOf model.bodyLength meant isMisfit endBy
+  head-says fits =
+      let (kind, h) = both-are (r .kind) model.headKind len model.headBytes fits in
+      let field = u16-part input (r .start) len in
+      let places = field 0 (r .start + 0) (omega arith) refl in
+      let arcs = field 2 (r .start + 2) (omega arith) refl in
+      rw (size-at input (r .start)) (fitting-says (Head _) _ (head-item whole kind ∙ rw (places, arcs)) refl h refl (omega arith))
 
   -- an arc of six
-  module _ (kind : r .kind ≡ model.arcKind) where
-    pub lane-misfit : len ≢ model.arcBytes → Says input r Misfit
-    unfolding model.bodyLength
-    lane-misfit h = misfit-says _ _ (lane-item whole kind) refl h
+  lane-body : len ≡ model.arcBytes → model.laneOf (whole .body) ≡ model.laneOf (drop (r .start) input)
+  unfolding model.laneOf
+  lane-body h =
+      let field = u16-part input (r .start) len in
+      let from = field 0 (r .start + 0) (omega arith) refl in
+      let to = field 2 (r .start + 2) (omega arith) refl in
+      let cost = field 4 (r .start + 4) (omega arith) refl in
+      rw (from, to, cost) (sym (lane-at input (r .start)))
 
-    pub lane-says : len ≡ model.arcBytes → Says input r (Lane (laneAt input (r .start)))
-    unfolding model.laneOf model.bodyLength meant isMisfit endBy
-    lane-says h =
-        let field = u16-part input (r .start) len in
-        let from = field 0 (r .start + 0) (omega arith) refl in
-        let to = field 2 (r .start + 2) (omega arith) refl in
-        let cost = field 4 (r .start + 4) (omega arith) refl in
-        rw (lane-at input (r .start)) (fitting-says (Lane _) _ (lane-item whole kind ∙ rw (from, to, cost)) refl h refl (omega arith))
+  pub lane-says : Fits model.arcKind model.arcBytes → (l : declared.Lane.Lane) → laneMeant l ≡ model.laneOf (drop (r .start) input)
+      → Says input r (Lane l)
+  unfolding model.bodyLength model.chargeBytes meant isMisfit endBy
+  lane-says fits l is =
+      let (kind, h) = both-are (r .kind) model.arcKind len model.arcBytes fits in
+      fitting-says (Lane l) _ (lane-item whole kind ∙ ap model.lane (lane-body h ∙ sym is)) refl h refl (omega arith)
+
+  -- an arc of eight, with a length and a class
+  measured-body : len ≡ model.measuredBytes → model.measuredOf (whole .body) ≡ model.measuredOf (drop (r .start) input)
+  unfolding model.measuredOf
+  measured-body h =
+      let field = u16-part input (r .start) len in
+      let from = field 0 (r .start + 0) (omega arith) refl in
+      let to = field 2 (r .start + 2) (omega arith) refl in
+      let long = field 4 (r .start + 4) (omega arith) refl in
+      let class = field 6 (r .start + 6) (omega arith) refl in
+      rw (from, to, long, class) (sym (measured-at input (r .start)))
+
+  pub measured-says : Fits model.measuredKind model.measuredBytes → (l : declared.MeasuredLane.MeasuredLane)
+      → measuredMeant l ≡ model.measuredOf (drop (r .start) input) → Says input r (Measured l)
+  unfolding model.bodyLength model.chargeBytes meant isMisfit endBy
+  measured-says fits l is =
+      let (kind, h) = both-are (r .kind) model.measuredKind len model.measuredBytes fits in
+      fitting-says (Measured l) _ (measured-item whole kind ∙ ap model.lane (measured-body h ∙ sym is)) refl h refl (omega arith)
 
   -- an estimate of six
-  module _ (kind : r .kind ≡ model.estimateKind) where
-    pub estimate-misfit : len ≢ model.estimateBytes → Says input r Misfit
-    unfolding model.bodyLength
-    estimate-misfit h = misfit-says _ _ (estimate-item whole kind) refl h
-
-    pub estimate-says : len ≡ model.estimateBytes → Says input r (Estimate (estimateAt input (r .start)))
-    unfolding model.estimateOf model.bodyLength meant isMisfit endBy
-    estimate-says h =
-        let place = u16-part input (r .start) len 0 (r .start + 0) (omega arith) refl in
-        let value = u32-part input (r .start) len 2 (r .start + 2) (omega arith) refl in
-        rw (estimate-at input (r .start)) (fitting-says (Estimate _) _ (estimate-item whole kind ∙ rw (place, value)) refl h refl (omega arith))
+  pub estimate-says : Fits model.estimateKind model.estimateBytes → Says input r (Estimate (estimateAt input (r .start)))
+  unfolding model.estimateOf model.bodyLength meant isMisfit endBy
+  estimate-says fits =
+      let (kind, h) = both-are (r .kind) model.estimateKind len model.estimateBytes fits in
+      let place = u16-part input (r .start) len 0 (r .start + 0) (omega arith) refl in
+      let value = u32-part input (r .start) len 2 (r .start + 2) (omega arith) refl in
+      rw (estimate-at input (r .start)) (fitting-says (Estimate _) _ (estimate-item whole kind ∙ rw (place, value)) refl h refl (omega arith))
 
   -- a job of eight, and of two more for each goal
   module _ (kind : r .kind ≡ model.jobKind) where
@@ -161,9 +213,60 @@ module _ (input : List ℕ) (r : Record) (lies : LiesIn input r) where
             misfit-says _ _ (job-item whole kind) job-length λ exact. eqb-false len _ f (exact ∙ rw (goal-count long))
         go false true e f = job-fits fields refl (ltb-false len _ e) (eqb-true len _ f)
 
+  -- any other kind
   pub other-says : r .kind ≢ model.headKind → r .kind ≢ model.arcKind → r .kind ≢ model.estimateKind → r .kind ≢ model.jobKind
-      → Says input r Other
+      → r .kind ≢ model.measuredKind → Says input r Other
   unfolding model.misfits model.bodyLength model.otherThan meant isMisfit endBy
-  other-says a b c d =
-      let is = other-item whole a b c d in
+  other-says a b c d e =
+      let is = other-item whole a b c d e in
       record { misfit = rw is; item = λ e. is; ends = refl }
+
+  abbrev outside : Bool
+  outside = ltb (r .kind) model.headKind || ltb model.measuredKind (r .kind)
+
+  pub outside-says : outside ≡ true → Says input r Other
+  outside-says out = other-says (apart refl) (apart refl) (apart refl) (apart refl) (apart refl)
+    where
+      apart : {k : ℕ} → (ltb k model.headKind || ltb model.measuredKind k) ≡ false → r .kind ≢ k
+      apart inside is = true≢false (sym out ∙ rw is inside)
+
+  -- a kind of fixed length, and another length than that
+  pub none-fits : outside ≡ false → r .kind ≢ model.jobKind → FitsNot model.headKind model.headBytes → FitsNot model.arcKind model.arcBytes
+      → FitsNot model.estimateKind model.estimateBytes → FitsNot model.measuredKind model.measuredBytes → Says input r Misfit
+  unfolding model.bodyLength model.chargeBytes model.laneOf model.measuredOf
+  none-fits inside no-job no-head no-lane no-estimate no-measured = go (model.itemOf whole) (kind-of whole) refl
+    where
+      go : (i : model.Item) → KindOf whole i → model.itemOf whole ≡ i → Says input r Misfit
+      go (model.head s) (is-head k) e = misfit-says _ _ (head-item whole k) refl (not-both _ _ _ _ no-head k)
+      go (model.lane l) (is-lane k) e = misfit-says _ _ (lane-item whole k) refl (not-both _ _ _ _ no-lane k)
+      go (model.lane l) (is-measured k) e = misfit-says _ _ (measured-item whole k) refl (not-both _ _ _ _ no-measured k)
+      go (model.estimate s) (is-estimate k) e = misfit-says _ _ (estimate-item whole k) refl (not-both _ _ _ _ no-estimate k)
+      go (model.job j) (is-job k) e = absurd (no-job k)
+      go model.other (is-other a b c d f) e =
+          let range = neither (ltb (r .kind) model.headKind) _ inside in
+          let low = first-kinds (r .kind) (ltb-false (r .kind) model.headKind (range .0)) a b c in
+          absurd (last-kinds (r .kind) low (ltb-false model.measuredKind (r .kind) (range .1)) d f)
+
+-- a record of a kind that fits has its length
+module _ (input : List ℕ) (r : Record) (can : FitsIn input r) where
+  fitting : (i : model.Item) (kind size : ℕ) → model.itemOf (whole input r (can .lies)) ≡ i → model.bodyLength i ≡ some size → r .kind ≡ kind
+      → Fits input r (can .lies) kind size
+  fitting i kind size is long k =
+      let fits = not-false (eqb (len input r (can .lies)) size) (sym (misfits-by input r (can .lies) i size is long) ∙ can .fits) in
+      rw (eq-eqb (r .kind) kind k, fits)
+
+  pub head-fits : r .kind ≡ model.headKind → Fits input r (can .lies) model.headKind model.headBytes
+  unfolding model.bodyLength
+  head-fits k = fitting _ _ _ (head-item _ k) refl k
+
+  pub lane-fits : r .kind ≡ model.arcKind → Fits input r (can .lies) model.arcKind model.arcBytes
+  unfolding model.bodyLength model.chargeBytes model.laneOf
+  lane-fits k = fitting _ _ _ (lane-item _ k) refl k
+
+  pub measured-fits : r .kind ≡ model.measuredKind → Fits input r (can .lies) model.measuredKind model.measuredBytes
+  unfolding model.bodyLength model.chargeBytes model.measuredOf
+  measured-fits k = fitting _ _ _ (measured-item _ k) refl k
+
+  pub estimate-fits : r .kind ≡ model.estimateKind → Fits input r (can .lies) model.estimateKind model.estimateBytes
+  unfolding model.bodyLength
+  estimate-fits k = fitting _ _ _ (estimate-item _ k) refl k

@@ -2,12 +2,10 @@
 use mathlib.Core.Path.{_≡_, sym, ap, _∙_}
 use mathlib.Core.Logic.{⊎-elim}
 use mathlib.Core.List.{List, [], _∷_}
-use mathlib.Core.Bool.{false, not}
-use Prim.Native.Nat.{ℕ, _+_, _-_, _≤_, _<_}
+use mathlib.Core.Bool.{false}
+use Prim.Native.Nat.{ℕ, _-_, _≤_, _<_}
 use native.Mathlib.Omega.{arith}
-use lib.Dec.{eqb}
-use lib.ListN.{length, drop, length-take, length-drop}
-use borrow.Author.Tests.{eqb-true, not-false}
+use lib.ListN.{length, drop}
 use types.Run.{OneOf}
 use denote.Enum.Declared.{tagOf}
 use Rattle.map.proofs.record.Read.{the-type}
@@ -16,13 +14,12 @@ use Rattle.map.specs.declared.record.Read.{Read}
 use Rattle.map.specs.declared.record.Item.{Item}
 use Rattle.map.specs.declared.record.Read.the-variants.{Whole, Broken, End}
 use Rattle.model.specs.Framing.{stop, push, frame}
-use Rattle.model.specs.Items.{itemOf, bodyLength, otherThan, misfits, items}
+use Rattle.model.specs.Items.{itemOf, misfits, items}
 use Rattle.model.specs.Lists.{any}
 use Rattle.model.specs.Refusals.{wrongLength}
 use Rattle.model.proofs.Lists.{neither}
-use Rattle.model.proofs.Items.{lane-item, estimate-item}
 use Rattle.map.specs.Records.{readAt, recordIn}
-use Rattle.map.specs.Items.{meant, LiesIn, Says, EndsByKind}
+use Rattle.map.specs.Items.{meant, LiesIn, Says}
 use Rattle.map.proofs.Records.{frame-end, frame-broken, frame-whole}
 
 -- the record r at byte `at` is the first of those left, and the others begin where it ends
@@ -63,15 +60,3 @@ module _ (s : List ℕ) (at : ℕ) (r : Record) (next : Next s at r) (fit : wron
   pub next-item : (i : Item) → Says s r i → items (frame (drop at s) .records) ≡ meant s i ∷ items (frame (drop (r .end) s) .records)
   unfolding items
   next-item i says = rw (next .first, said s r i says (next-fits .0))
-
--- a record that fits ends where its kind says
-pub ends-by-kind : (s : List ℕ) (r : Record) → LiesIn s r → misfits (recordIn s r) ≡ false → EndsByKind r
-unfolding misfits bodyLength otherThan
-ends-by-kind s r lies fits =
-    let whole = recordIn s r in
-    let forward = lies .forward in
-    let ends = lies .ends in
-    let size : length (whole .body) ≡ r .end - r .start = simp (length-take, length-drop) (omega arith) in
-    let long : not (eqb (length (whole .body)) 6) ≡ false → r .start + 6 ≡ r .end =
-    λ e. omega (arith, size, eqb-true (length (whole .body)) 6 (not-false _ e)) in
-    record { arc = λ is. long (rw (lane-item whole is) at fits); estimate = λ is. long (rw (estimate-item whole is) at fits) }

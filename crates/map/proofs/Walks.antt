@@ -17,9 +17,9 @@ use Rattle.model.specs.Items as model
 use Rattle.model.specs.Items.{items}
 use Rattle.model.specs.Refusals.{wrongLength}
 use Rattle.map.specs.Records.{readAt}
-use Rattle.map.specs.Items.{meant, Says, EndsByKind}
+use Rattle.map.specs.Items.{meant, FitsIn, Says}
 use Rattle.map.specs.Walks.{Walking}
-use Rattle.map.proofs.Reading.{Next, next-record, none-left, next-fits, next-item, ends-by-kind}
+use Rattle.map.proofs.Reading.{Next, next-record, none-left, next-fits, next-item}
 
 -- the walk has come to the record r, which says i
 pub record Comes {S : Type 0} (I : List model.Item → S → Type 0) (input : List ℕ) (at : ℕ) (kept : S) (r : Record) (i : Item) : Type 0 where
@@ -42,6 +42,9 @@ module _ {S : Type 0} {I : List model.Item → S → Type 0} {input : List ℕ} 
     pub walk-next : (x : Read) → x ≡ readAt input at → (r : Record) → x ≡ Whole r → Next input at r
     walk-next x read r is = next-record input at (walk .inside) x r read is
 
+    pub walk-fits : {r : Record} → Next input at r → FitsIn input r
+    walk-fits {r} next = record { lies = next .lies; fits = next-fits input at r next (walk .fit) .0 }
+
     pub walk-comes : {r : Record} → Next input at r → (i : Item) → Says input r i → Comes I input at kept r i
     walk-comes {r} next i says =
         let left = next-item input at r next (walk .fit) i says in
@@ -52,10 +55,6 @@ module _ {S : Type 0} {I : List model.Item → S → Type 0} {input : List ℕ} 
           in-all = walk .among (meant input i) (rw left (List·Memᴰ·head refl));
           first = rw left at (walk .holds);
         }
-
-  -- all records of the walk fit
-  pub walk-ends-by-kind : {at : ℕ} {kept : S} {r : Record} {i : Item} → Comes I input at kept r i → EndsByKind r
-  walk-ends-by-kind {at} {r = r} comes = ends-by-kind input r (comes .next .lies) (next-fits input at r (comes .next) (comes .walk .fit) .0)
 
   -- from a record the walk goes on where that ends
   module _ {at : ℕ} {kept : S} {r : Record} {i : Item} (comes : Comes I input at kept r i) {e : ℕ} (end : e ≡ r .end) where

@@ -7,7 +7,7 @@ use lib.Dec.{ltb, eqb}
 use lib.ListN.{length, drop}
 use Rattle.map.specs.declared.record as declared
 use Rattle.map.specs.declared.record.Item.{Item}
-use Rattle.map.specs.declared.record.Item.the-variants.{Head, Lane, Estimate, Job, Misfit, Other}
+use Rattle.map.specs.declared.record.Item.the-variants.{Head, Lane, Measured, Estimate, Job, Misfit, Other}
 use Rattle.map.specs.Records.{recordIn}
 use Rattle.model.specs.Bytes.{u16s}
 use Rattle.model.specs.Items as model
@@ -15,13 +15,6 @@ use Rattle.model.specs.Items as model
 -- what a body that begins at byte `at` says, in the code's types
 unfoldable pub sizeAt : List ℕ → ℕ → declared.Size.Size
 sizeAt input at = let s = model.headOf (drop at input) in record { places = s .places; arcs = s .arcs }
-
--- a lane's charge, as long as there is but one kind of lane
-unfoldable pub costIn : model.Charge → ℕ
-costIn (model.flat cost) = cost
-
-unfoldable pub laneAt : List ℕ → ℕ → declared.Lane.Lane
-laneAt input at = let l = model.laneOf (drop at input) in record { from = l .from; to = l .to; cost = costIn (l .charge) }
 
 unfoldable pub estimateAt : List ℕ → ℕ → declared.Estimate.Estimate
 estimateAt input at = let e = model.estimateOf (drop at input) in record { place = e .place; value = e .value }
@@ -37,19 +30,27 @@ jobAt input at len =
 unfoldable pub isMisfit : Item → Bool
 isMisfit (Head s) = false
 isMisfit (Lane l) = false
+isMisfit (Measured l) = false
 isMisfit (Estimate e) = false
 isMisfit (Job j) = false
 isMisfit Misfit = true
 isMisfit Other = false
 
--- the job of these fields
+-- the lane of either kind, and the job, of these fields
+abbrev pub laneMeant : declared.Lane.Lane → model.Lane
+laneMeant l = record { from = l .from; to = l .to; charge = model.flat (l .cost) }
+
+abbrev pub measuredMeant : declared.MeasuredLane.MeasuredLane → model.Lane
+measuredMeant l = record { from = l .from; to = l .to; charge = model.measured (l .length) (l .class) }
+
 unfoldable pub jobOf : List ℕ → declared.JobFields.JobFields → model.Job
 jobOf input j = record { start = j .start; allowance = j .allowance; goals = u16s (j .goals) input (j .«goals_at») }
 
 -- in the definitions' terms; a record that does not fit says nothing
 unfoldable pub meant : List ℕ → Item → model.Item
 meant input (Head s) = model.head (record { places = s .places; arcs = s .arcs })
-meant input (Lane l) = model.lane (record { from = l .from; to = l .to; charge = model.flat (l .cost) })
+meant input (Lane l) = model.lane (laneMeant l)
+meant input (Measured l) = model.lane (measuredMeant l)
 meant input (Estimate e) = model.estimate (record { place = e .place; value = e .value })
 meant input (Job j) = model.job (jobOf input j)
 meant input Misfit = model.other
@@ -59,6 +60,7 @@ meant input Other = model.other
 unfoldable pub endBy : declared.Record.Record → Item → ℕ
 endBy r (Head s) = r .start + model.headBytes
 endBy r (Lane l) = r .start + model.arcBytes
+endBy r (Measured l) = r .start + model.measuredBytes
 endBy r (Estimate e) = r .start + model.estimateBytes
 endBy r (Job j) = j .«goals_at» + 2 * j .goals
 endBy r Misfit = r .end
@@ -67,15 +69,15 @@ endBy r Other = r .end
 abbrev pub EndsBy : declared.Record.Record → Item → Type 0
 EndsBy r i = endBy r i ≡ r .end
 
--- the body of an arc or an estimate is as long as its kind says
-pub record EndsByKind (r : declared.Record.Record) : Type 0 where
-  pub arc : r .kind ≡ model.arcKind → r .start + model.arcBytes ≡ r .end
-  pub estimate : r .kind ≡ model.estimateKind → r .start + model.estimateBytes ≡ r .end
-
 -- the record's body lies in the input
 pub record LiesIn (input : List ℕ) (r : declared.Record.Record) : Type 0 where
   pub forward : r .start ≤ r .end
   pub ends : r .end ≤ length input
+
+-- and it has the length of its kind
+pub record FitsIn (input : List ℕ) (r : declared.Record.Record) : Type 0 where
+  pub lies : LiesIn input r
+  pub fits : model.misfits (recordIn input r) ≡ false
 
 -- the record r of the input says i
 pub record Says (input : List ℕ) (r : declared.Record.Record) (i : Item) : Type 0 where

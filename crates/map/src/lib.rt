@@ -1,4 +1,4 @@
-// The map's type with the limits of document 01, and the records of an input.
+// The map's type with the limits of the papers, and the records of an input.
 pub mod number;
 pub mod record;
 pub mod sheet;
@@ -7,6 +7,7 @@ ghost use mathlib.Core.Path.{_≡_};
 ghost use Prim.Native.Nat.{_≤_};
 ghost use Rattle.map.specs.Sizes.{mapOf, wordsOf, bytesOf};
 ghost use Rattle.model.specs.Limits.{maxPlaces, maxArcs};
+ghost use Rattle.model.specs.Stated.{fixedFactors};
 
 // The size of a map within the limits: its places are 0 to places − 1.
 pub struct Map {
@@ -31,6 +32,14 @@ impl Map {
 
     pub const GOALS: usize = 64;
 
+    // The longest lane that is measured, the highest class.
+    pub const LENGTH: u32 = 4095;
+
+    pub const CLASS: usize = 7;
+
+    // The factors of classes 0 to 7: what a lane costs for each foot of its length.
+    const FACTORS: [u32; Map::CLASS + 1] = [1, 2, 3, 4, 6, 8, 12, 16];
+
     // The bytes of the sheet area that the largest map asks for.
     pub const SHEET_BYTES: usize = 10 + 2 * Map::PLACES;
 
@@ -42,6 +51,13 @@ impl Map {
             return NewMap::OutOfRange;
         }
         NewMap::Within(Map { places, arcs })
+    }
+
+    // The table of factors of a map that states no other.
+    pub fn fixed_factors() -> [u32; Map::CLASS + 1]
+        ensures { λ r. ⌜ r ≡ fixedFactors ⌝ }
+    {
+        Map::FACTORS
     }
 }
 

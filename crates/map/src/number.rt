@@ -1,4 +1,4 @@
-// Document 01's numbers, which an answer and a read of a sheet give.
+// The papers' numbers, which an answer and a read of a sheet give.
 pub const FOUND: u32 = 0;
 
 pub const BROKEN: u32 = 1;
@@ -38,3 +38,5 @@ pub const NO_ROUTE: u32 = 17;
 pub const NO_SHEET: u32 = 18;
 
 pub const NO_JOB: u32 = 19;
+
+pub const WRONG_MEASURE: u32 = 20;

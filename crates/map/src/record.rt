@@ -1,10 +1,10 @@
 // Records of the input, one after another, and what each says. Kinds, body lengths and the places of fields are spelled here and nowhere else.
 ghost use mathlib.Core.Path.{_≡_};
 ghost use Prim.Native.Nat.{_+_, _≤_};
-ghost use lib.ListN.{length};
-ghost use Rattle.model.specs.Items.{headBytes, arcBytes, estimateBytes};
+ghost use lib.ListN.{length, drop};
+ghost use Rattle.model.specs.Items.{headBytes, arcBytes, estimateBytes, measuredBytes, laneOf, measuredOf};
 ghost use Rattle.map.specs.Records.{readAt};
-ghost use Rattle.map.specs.Items.{sizeAt, laneAt, estimateAt, jobAt, LiesIn, Says, EndsBy, EndsByKind};
+ghost use Rattle.map.specs.Items.{sizeAt, laneMeant, measuredMeant, estimateAt, jobAt, LiesIn, FitsIn, Says, EndsBy};
 
 const HEAD_KIND: u16 = 1;
 
@@ -13,6 +13,12 @@ const ARC_KIND: u16 = 2;
 const ESTIMATE_KIND: u16 = 3;
 
 const JOB_KIND: u16 = 4;
+
+// An arc with a length and a class.
+const MEASURED_KIND: u16 = 5;
+
+// The papers' kinds are those from 1 on up to this one.
+const LAST_KIND: u16 = 5;
 
 // The bytes before a record's body: its length and its kind.
 const HEADER: usize = 4;
@@ -24,17 +30,23 @@ const ARC_BYTES: usize = 6;
 
 const ESTIMATE_BYTES: usize = 6;
 
+const MEASURED_BYTES: usize = 8;
+
 // Where the fields of a head stand in its body.
 const PLACES: usize = 0;
 
 const ARCS: usize = 2;
 
-// Where the fields of an arc stand in its body: the place that it leaves, the place where it ends, its cost.
+// Where the fields of an arc stand in its body: the place that it leaves, the place where it ends, its cost or its length and class.
 const FROM: usize = 0;
 
 const TO: usize = 2;
 
 const COST: usize = 4;
+
+const LENGTH: usize = 4;
+
+const CLASS: usize = 6;
 
 // Where the fields of an estimate stand in its body.
 const PLACE: usize = 0;
@@ -74,6 +86,13 @@ pub struct Lane {
     pub cost: u32,
 }
 
+pub struct MeasuredLane {
+    pub from: usize,
+    pub to: usize,
+    pub length: u32,
+    pub class: usize,
+}
+
 pub struct Estimate {
     pub place: usize,
     pub value: u32,
@@ -87,10 +106,11 @@ pub struct JobFields {
     pub goals_at: usize,
 }
 
-// What a record says, by its kind. `Misfit` has one of document 01's kinds and a body of another length; `Other` has none of its kinds.
+// What a record says, by its kind. `Misfit` has one of the papers' kinds and a body of another length; `Other` has none of their kinds.
 pub enum Item {
     Head(Size),
     Lane(Lane),
+    Measured(MeasuredLane),
     Estimate(Estimate),
     Job(JobFields),
     Misfit,
@@ -132,12 +152,24 @@ fn head_at(input: &[u8], at: usize) -> Size
 
 fn lane_at(input: &[u8], at: usize) -> Lane
     requires { ⌜ at + arcBytes ≤ length (now input) ⌝ }
-    ensures { λ r. ⌜ r ≡ laneAt (now (input .entry)) at ⌝ }
+    ensures { λ r. ⌜ laneMeant r ≡ laneOf (drop at (now (input .entry))) ⌝ }
 {
     Lane {
         from: area::index(area::u16_at(input, at + FROM)),
         to: area::index(area::u16_at(input, at + TO)),
         cost: area::wide16(area::u16_at(input, at + COST)),
+    }
+}
+
+fn measured_at(input: &[u8], at: usize) -> MeasuredLane
+    requires { ⌜ at + measuredBytes ≤ length (now input) ⌝ }
+    ensures { λ r. ⌜ measuredMeant r ≡ measuredOf (drop at (now (input .entry))) ⌝ }
+{
+    MeasuredLane {
+        from: area::index(area::u16_at(input, at + FROM)),
+        to: area::index(area::u16_at(input, at + TO)),
+        length: area::wide16(area::u16_at(input, at + LENGTH)),
+        class: area::index(area::u16_at(input, at + CLASS)),
     }
 }
 
@@ -171,31 +203,52 @@ fn job_at(input: &[u8], at: usize, len: usize) -> Item
     })
 }
 
+// What a record says. Kind and length are looked at together, by one branch.
 pub fn item_of(input: &[u8], r: Record) -> Item
     requires { ⌜ LiesIn (now input) r ⌝ }
     ensures { λ i. ⌜ Says (now (input .entry)) r i ⌝ }
 {
     let len = r.end - r.start;
-    if r.kind == ARC_KIND {
-        if len != ARC_BYTES {
-            return Item::Misfit;
-        }
+    if (r.kind == ARC_KIND) & (len == ARC_BYTES) {
         return Item::Lane(lane_at(input, r.start));
     }
-    if r.kind == ESTIMATE_KIND {
-        if len != ESTIMATE_BYTES {
-            return Item::Misfit;
-        }
+    if (r.kind == MEASURED_KIND) & (len == MEASURED_BYTES) {
+        return Item::Measured(measured_at(input, r.start));
+    }
+    if (r.kind == ESTIMATE_KIND) & (len == ESTIMATE_BYTES) {
         return Item::Estimate(estimate_at(input, r.start));
     }
-    if r.kind == HEAD_KIND {
-        if len != HEAD_BYTES {
-            return Item::Misfit;
-        }
+    if (r.kind == HEAD_KIND) & (len == HEAD_BYTES) {
         return Item::Head(head_at(input, r.start));
     }
     if r.kind == JOB_KIND {
         return job_at(input, r.start, len);
+    }
+    if (r.kind < HEAD_KIND) | (LAST_KIND < r.kind) {
+        return Item::Other;
+    }
+    Item::Misfit
+}
+
+// The same of a record whose length is known to be that of its kind, so that it is not looked at again.
+pub fn fitting_item(input: &[u8], r: Record) -> Item
+    requires { ⌜ FitsIn (now input) r ⌝ }
+    ensures { λ i. ⌜ Says (now (input .entry)) r i ⌝ }
+{
+    if r.kind == ARC_KIND {
+        return Item::Lane(lane_at(input, r.start));
+    }
+    if r.kind == MEASURED_KIND {
+        return Item::Measured(measured_at(input, r.start));
+    }
+    if r.kind == ESTIMATE_KIND {
+        return Item::Estimate(estimate_at(input, r.start));
+    }
+    if r.kind == HEAD_KIND {
+        return Item::Head(head_at(input, r.start));
+    }
+    if r.kind == JOB_KIND {
+        return job_at(input, r.start, r.end - r.start);
     }
     Item::Other
 }
@@ -208,22 +261,8 @@ pub fn end_of(r: Record, item: Item) -> usize
 {
     match item {
         Item::Lane(_) => r.start + ARC_BYTES,
+        Item::Measured(_) => r.start + MEASURED_BYTES,
         Item::Estimate(_) => r.start + ESTIMATE_BYTES,
         Item::Head(_) | Item::Job(_) | Item::Misfit | Item::Other => r.end,
     }
-}
-
-// Where a record ends whose body is as long as its kind says. An arc's and an estimate's kind says it, so that what is read next need not wait
-// for the length that was just read.
-pub fn end_by_kind(r: Record) -> usize
-    requires { ⌜ EndsByKind r ⌝ }
-    ensures { λ e. ⌜ e ≡ r .end ⌝ }
-{
-    if r.kind == ARC_KIND {
-        return r.start + ARC_BYTES;
-    }
-    if r.kind == ESTIMATE_KIND {
-        return r.start + ESTIMATE_BYTES;
-    }
-    r.end
 }

@@ -6,9 +6,11 @@ use Rattle.model.specs.Framing.{stop, push, frameUpTo, frame, putRecord}
 use Rattle.model.specs.Items.{
   headOf,
   laneOf,
+  measuredOf,
   estimateOf,
   jobOf,
   itemOf,
+  chargeBytes,
   bodyLength,
   otherThan,
   misfits,
@@ -30,6 +32,8 @@ use Rattle.model.specs.Refusals.{
   freeArc,
   largeEstimate,
   twoEstimates,
+  mismeasured,
+  wrongMeasure,
   endsWithJob,
   wrongJob,
   jobOutsideMap,
@@ -104,7 +108,7 @@ use Rattle.model.specs.Sheets.{
   readSheet,
   hostAnswer,
 }
-use Rattle.model.specs.Jobs.{putHead, putArc, putEstimate, putJob, shares, putChain, routeJob, noRouteJob}
+use Rattle.model.specs.Jobs.{putHead, putArc, putMeasured, putEstimate, putJob, shares, putChain, routeJob, noRouteJob}
 use Rattle.model.specs.Endings.{finished, endingIf, budgeted}
 use Rattle.model.specs.Answer.{sheetOf, answerOf, overFront, refusedWith, endedWith, callIf, call}
 
@@ -114,9 +118,9 @@ unfolding
     any filter isGiven consIf filterMap lesser leastBy member repeats rises
     u16 u32 u16s put16 put32 put16s
     stop push frameUpTo frame putRecord
-    headOf laneOf estimateOf jobOf itemOf bodyLength otherThan misfits items sizeIn laneIn estimateIn jobIn
+    headOf laneOf measuredOf estimateOf jobOf itemOf chargeBytes bodyLength otherThan misfits items sizeIn laneIn estimateIn jobIn
     statedBy stated lookup costUnder arcUnder problemOf
-    unknownKind wrongLength beginsWithHead wrongHead wrongSize outsideMap isFree freeArc largeEstimate twoEstimates
+    unknownKind wrongLength beginsWithHead wrongHead wrongSize outsideMap isFree freeArc largeEstimate twoEstimates mismeasured wrongMeasure
     endsWithJob wrongJob jobOutsideMap wrongGoals goalEstimate shortWork shortSheet
     formRows sizeRows mapRows jobRows inputRows roomRows rows firstThatHolds refusal
     lowers storeIf arrive relaxFrom relax relaxAll sameEntry sameTable relaxUpTo startTable table
@@ -124,6 +128,6 @@ unfolding
     firstRound limitOf closeIf settle after ask next goOn traceUpTo trace total begun search
     parentBy parent extend routeUpTo routeTo
     routeSheet noRouteSheet reading refusedRead impossible checked fitsRoute fitsNoRoute readRecord readFramed readSheet hostAnswer
-    putHead putArc putEstimate putJob shares putChain routeJob noRouteJob
+    putHead putArc putMeasured putEstimate putJob shares putChain routeJob noRouteJob
     finished endingIf budgeted sheetOf answerOf overFront refusedWith endedWith callIf call
 compute = tt

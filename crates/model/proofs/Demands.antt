@@ -33,7 +33,7 @@ use Rattle.model.proofs.Promises.{none-sheet-is, route-sheet-is, places
 use Rattle.model.proofs.Promises.{SheetSays, sheet-says, first-sheet, none-sheet, equal-routes, equal-starts, never-equal}
 use Rattle.model.proofs.Realized.{accepted-route-written, accepted-no-route-written}
 
--- Demand 1: if the map, the job or the lent memory breaks a rule, the call ends with the number that document 01 gives, and every lent
+-- Demand 1: if the map, the job or the lent memory breaks a rule, the call ends with the number that the papers give, and every lent
 -- byte and word is as before.
 pub record Demand1 (c : Call) (r : Result) : Type 0 where
   -- a row of the table of conditions holds: its number is given where no earlier row holds, with six zeros, and nothing lent has changed

@@ -1,4 +1,4 @@
--- The conditions of 1 to 15 at their edges: beside each input that is refused stands one that just passes; and the host's questions. Computed from
+-- The conditions at their edges: beside each input that is refused stands one that just passes; and the host's questions. Computed from
 -- the definitions.
 use mathlib.Core.Path.{_≡_, refl}
 use mathlib.Core.Bool.{Bool, true, false, _&&_}
@@ -8,10 +8,10 @@ use lib.Dec.{eqb}
 use lib.ListN.{replicate}
 use Rattle.model.specs.Bytes.{put16, put32}
 use Rattle.model.specs.Framing.{Record, frame, putRecord}
-use Rattle.model.specs.Items.{headKind, arcKind, estimateKind, jobKind}
+use Rattle.model.specs.Items.{headKind, arcKind, estimateKind, jobKind, measuredKind}
 use Rattle.model.specs.Stated.{stated}
 use Rattle.model.specs.Refusals.{wrongSize, refusal}
-use Rattle.model.specs.Jobs.{putHead, putArc, putEstimate, putJob}
+use Rattle.model.specs.Jobs.{putHead, putArc, putMeasured, putEstimate, putJob}
 use Rattle.model.specs.Sheets.{readSheet, hostAnswer}
 use Rattle.model.proofs.Compute.{compute}
 use Rattle.model.proofs.Runs.{Case, same, seven, over, agrees, agree, case, sheet9}
@@ -47,15 +47,17 @@ mapEdges =
     ∷ refused 1 (one ++ here ++ (0 ∷ []))
     ∷ refused 1 (one ++ here ++ (0 ∷ 0 ∷ 0 ∷ []))
     ∷ refused 1 (one ++ put16 11 ++ put16 jobKind ++ put16 0 ++ put32 9 ++ put16 1 ++ put16 0)
-    -- 2: kinds 0, 5 and 256 + 4
+    -- 2: kinds 0, 6 and 256 + 4
     ∷ refused 2 (one ++ here ++ (0 ∷ 0 ∷ 0 ∷ 0 ∷ []))
-    ∷ refused 2 (one ++ putRecord 5 [] ++ here)
+    ∷ refused 2 (one ++ putRecord 6 [] ++ here)
     ∷ refused 2 (one ++ putRecord 260 (put16 0 ++ put32 9 ++ put16 1 ++ put16 0))
     -- 3: bodies too long and too short; of a job also by its count of goals
     ∷ refused 3 (putRecord headKind (put16 1 ++ put16 0 ++ (0 ∷ [])) ++ here)
     ∷ refused 3 (putRecord headKind (put16 1 ++ (0 ∷ [])) ++ here)
     ∷ refused 3 (two 1 ++ putRecord arcKind (put16 0 ++ put16 1 ++ put16 1 ++ (0 ∷ [])) ++ here)
     ∷ refused 3 (two 1 ++ putRecord arcKind (put16 0 ++ put16 1 ++ (1 ∷ [])) ++ here)
+    ∷ refused 3 (two 1 ++ putRecord measuredKind (put16 0 ++ put16 1 ++ put16 1 ++ put16 0 ++ (0 ∷ [])) ++ here)
+    ∷ refused 3 (two 1 ++ putRecord measuredKind (put16 0 ++ put16 1 ++ put16 1) ++ here)
     ∷ refused 3 (two 0 ++ putRecord estimateKind (put16 1 ++ put32 1 ++ (0 ∷ [])) ++ here)
     ∷ refused 3 (two 0 ++ putRecord estimateKind (put16 1 ++ (1 ∷ 0 ∷ 0 ∷ [])) ++ here)
     ∷ refused 3 (one ++ putRecord jobKind (put16 0 ++ put32 9 ++ (0 ∷ [])))
@@ -65,15 +67,19 @@ mapEdges =
     ∷ refused 4 []
     ∷ refused 4 (putEstimate 0 0 ++ one ++ here)
     ∷ refused 4 (one ++ one ++ here)
-    -- 5: no place; one arc too few or too many, also behind the job
+    -- 5: no place; one arc of either kind too few or too many, also behind the job
     ∷ refused 5 (putHead 0 0 ++ here)
     ∷ passes 2 1 (two 1 ++ putArc 0 1 1 ++ here)
     ∷ refused 5 (two 1 ++ here)
     ∷ refused 5 (two 0 ++ putArc 0 1 1 ++ here)
+    ∷ refused 5 (two 1 ++ putArc 0 1 1 ++ putMeasured 0 1 1 0 ++ here)
+    ∷ refused 5 (two 0 ++ here ++ putMeasured 0 1 1 0)
     ∷ refused 5 (two 0 ++ here ++ putArc 0 1 1)
     -- 6: the place N of an arc and of an estimate, beside the place N − 1
     ∷ refused 6 (two 1 ++ putArc 2 1 1 ++ here)
     ∷ refused 6 (two 1 ++ putArc 0 2 1 ++ here)
+    ∷ refused 6 (two 1 ++ putMeasured 2 1 1 0 ++ here)
+    ∷ refused 6 (two 1 ++ putMeasured 0 2 1 0 ++ here)
     ∷ passes 2 0 (two 0 ++ putEstimate 1 1 ++ here)
     ∷ refused 6 (two 0 ++ putEstimate 2 1 ++ here)
     -- 7: an arc of cost 0, beside one of 1 (above) and one of 65,535
@@ -87,6 +93,16 @@ mapEdges =
     ∷ refused 9 (two 0 ++ putEstimate 1 5 ++ putEstimate 1 6 ++ here)
     ∷ refused 9 (two 0 ++ putEstimate 1 0 ++ putEstimate 1 6 ++ here)
     ∷ passes 2 0 (two 0 ++ putEstimate 0 0 ++ putEstimate 1 6 ++ here)
+    -- 20: lengths 0 and 4,096 and class 8, beside lengths 1 and 4,095 and classes 0 and 7; after 9 and before 10
+    ∷ refused 20 (two 1 ++ putMeasured 0 1 0 0 ++ here)
+    ∷ passes 2 1 (two 1 ++ putMeasured 0 1 1 0 ++ here)
+    ∷ passes 2 1 (two 1 ++ putMeasured 0 1 4095 7 ++ here)
+    ∷ refused 20 (two 1 ++ putMeasured 0 1 4096 7 ++ here)
+    ∷ refused 20 (two 1 ++ putMeasured 0 1 4095 8 ++ here)
+    ∷ refused 7 (two 2 ++ putMeasured 0 1 0 0 ++ putArc 0 1 0 ++ here)
+    ∷ refused 9 (two 1 ++ putMeasured 0 1 0 0 ++ putEstimate 1 5 ++ putEstimate 1 5 ++ here)
+    ∷ refused 20 (two 1 ++ putMeasured 0 1 1 256)
+    ∷ refused 20 (two 1 ++ here ++ putMeasured 0 1 0 0)
     ∷ []
 
 jobEdges : List Case

@@ -5,9 +5,12 @@ use mathlib.Core.Option.{some}
 use mathlib.Core.Logic.{_≢_}
 use lib.Dec.{eqb}
 use borrow.Author.Tests.{eqb-true, eqb-false, ne-eqb}
+use Prim.Native.Nat.{ℕ}
+use Rattle.model.specs.Bytes.{u16}
 use Rattle.model.specs.Framing.{Record}
-use Rattle.model.specs.Items.{headKind, arcKind, estimateKind, jobKind, Lane, Item, head, lane, estimate, job, other}
-use Rattle.model.specs.Items.{headOf, laneOf, estimateOf, jobOf, itemOf, laneIn}
+use Rattle.model.specs.Items.{headKind, arcKind, estimateKind, jobKind, measuredKind}
+use Rattle.model.specs.Items.{flat, Lane, Item, head, lane, estimate, job, other}
+use Rattle.model.specs.Items.{headOf, laneOf, measuredOf, estimateOf, jobOf, itemOf, laneIn}
 use Rattle.model.proofs.Lists.{none-some}
 
 module _ (r : Record) where
@@ -16,22 +19,27 @@ module _ (r : Record) where
     is-lane : r .kind ≡ arcKind → KindOf (lane (laneOf (r .body)))
     is-estimate : r .kind ≡ estimateKind → KindOf (estimate (estimateOf (r .body)))
     is-job : r .kind ≡ jobKind → KindOf (job (jobOf (r .body)))
-    is-other : r .kind ≢ headKind → r .kind ≢ arcKind → r .kind ≢ estimateKind → r .kind ≢ jobKind → KindOf other
+    is-measured : r .kind ≡ measuredKind → KindOf (lane (measuredOf (r .body)))
+    is-other : r .kind ≢ headKind → r .kind ≢ arcKind → r .kind ≢ estimateKind → r .kind ≢ jobKind → r .kind ≢ measuredKind → KindOf other
 
   pub kind-of : KindOf (itemOf r)
   unfolding itemOf
-  kind-of = go (eqb (r .kind) headKind) (eqb (r .kind) arcKind) (eqb (r .kind) estimateKind) (eqb (r .kind) jobKind) refl refl refl refl
+  kind-of =
+      go (eqb (r .kind) headKind) (eqb (r .kind) arcKind) (eqb (r .kind) estimateKind) (eqb (r .kind) jobKind) (eqb (r .kind) measuredKind)
+      refl refl refl refl refl
     where
-      go : (a b c d : Bool) → eqb (r .kind) headKind ≡ a → eqb (r .kind) arcKind ≡ b → eqb (r .kind) estimateKind ≡ c → eqb (r .kind) jobKind ≡ d
+      go : (a b c d e : Bool) → eqb (r .kind) headKind ≡ a → eqb (r .kind) arcKind ≡ b → eqb (r .kind) estimateKind ≡ c
+          → eqb (r .kind) jobKind ≡ d → eqb (r .kind) measuredKind ≡ e
           → KindOf (cond a (head (headOf (r .body))) (cond b (lane (laneOf (r .body)))
-          (cond c (estimate (estimateOf (r .body))) (cond d (job (jobOf (r .body))) other))))
-      go true b c d p q s t = is-head (eqb-true (r .kind) headKind p)
-      go false true c d p q s t = is-lane (eqb-true (r .kind) arcKind q)
-      go false false true d p q s t = is-estimate (eqb-true (r .kind) estimateKind s)
-      go false false false true p q s t = is-job (eqb-true (r .kind) jobKind t)
-      go false false false false p q s t =
+          (cond c (estimate (estimateOf (r .body))) (cond d (job (jobOf (r .body))) (cond e (lane (measuredOf (r .body))) other)))))
+      go true b c d e p q s t u = is-head (eqb-true (r .kind) headKind p)
+      go false true c d e p q s t u = is-lane (eqb-true (r .kind) arcKind q)
+      go false false true d e p q s t u = is-estimate (eqb-true (r .kind) estimateKind s)
+      go false false false true e p q s t u = is-job (eqb-true (r .kind) jobKind t)
+      go false false false false true p q s t u = is-measured (eqb-true (r .kind) measuredKind u)
+      go false false false false false p q s t u =
           is-other (eqb-false (r .kind) headKind p) (eqb-false (r .kind) arcKind q) (eqb-false (r .kind) estimateKind s)
-          (eqb-false (r .kind) jobKind t)
+          (eqb-false (r .kind) jobKind t) (eqb-false (r .kind) measuredKind u)
 
   pub head-item : r .kind ≡ headKind → itemOf r ≡ head (headOf (r .body))
   unfolding itemOf
@@ -49,18 +57,23 @@ module _ (r : Record) where
   unfolding itemOf
   job-item e = rw e
 
-  pub other-item : r .kind ≢ headKind → r .kind ≢ arcKind → r .kind ≢ estimateKind → r .kind ≢ jobKind → itemOf r ≡ other
+  pub measured-item : r .kind ≡ measuredKind → itemOf r ≡ lane (measuredOf (r .body))
   unfolding itemOf
-  other-item a b c d = simp (ne-eqb _ _ a, ne-eqb _ _ b, ne-eqb _ _ c, ne-eqb _ _ d)
+  measured-item e = rw e
 
-  -- a lane is what the body says
-  pub lane-body : (l : Lane) → laneIn (itemOf r) ≡ some l → l ≡ laneOf (r .body)
-  unfolding laneIn
-  lane-body l e = go (itemOf r) kind-of e
+  pub other-item : r .kind ≢ headKind → r .kind ≢ arcKind → r .kind ≢ estimateKind → r .kind ≢ jobKind → r .kind ≢ measuredKind → itemOf r ≡ other
+  unfolding itemOf
+  other-item a b c d e = simp (ne-eqb _ _ a, ne-eqb _ _ b, ne-eqb _ _ c, ne-eqb _ _ d, ne-eqb _ _ e)
+
+  -- a lane's flat cost is a field of the body
+  pub flat-field : (l : Lane) (c : ℕ) → laneIn (itemOf r) ≡ some l → l .charge ≡ flat c → c ≡ u16 (r .body) 4
+  unfolding laneIn laneOf measuredOf
+  flat-field l c e f = go (itemOf r) kind-of e
     where
-      go : (i : Item) → KindOf i → laneIn i ≡ some l → l ≡ laneOf (r .body)
+      go : (i : Item) → KindOf i → laneIn i ≡ some l → c ≡ u16 (r .body) 4
       go (head s) k e = none-some e
       go (lane m) (is-lane q) e = cc
+      go (lane m) (is-measured q) e = cc
       go (estimate s) k e = none-some e
       go (job j) k e = none-some e
       go other k e = none-some e

@@ -11,6 +11,7 @@ pub mod Records
 pub mod Indices
 pub mod Items
 pub mod Rows
+pub mod Charges
 pub mod Acceptance
 pub mod Relaxing
 pub mod LeastCosts

@@ -231,6 +231,13 @@ member-true x xs = (equal, go (any (eqb x) xs) refl)
     go true e i = refl
     go false e i = absurd (eqb-false x x (any-false (eqb x) xs e x i) refl)
 
+-- a list that no element passes the test of, at each position
+pub any-false-at : {A : Type 0} (f : A → Bool) (d : A) (xs : List A) → any f xs ≡ false → (i : ℕ) → i < length xs → f (getD xs i d) ≡ false
+unfolding any
+any-false-at f d [] e i h = absurd (omega arith)
+any-false-at f d (x ∷ xs) e zero h = neither (f x) (any f xs) e .0
+any-false-at f d (x ∷ xs) e (suc i) h = any-false-at f d xs (neither (f x) (any f xs) e .1) i (omega arith)
+
 pub not-true-false : (b : Bool) → (b ≡ true → ⊥) → b ≡ false
 not-true-false true h = absurd (h refl)
 not-true-false false h = refl

@@ -12,10 +12,11 @@ use Rattle.model.specs.Bytes.{u16, u16s, put16, put32, put16s}
 use Rattle.model.specs.Framing.{Record}
 use Rattle.model.specs.Limits.{maxPlaces, maxArcs}
 use Rattle.model.specs.Problem.{Arc, Valid}
-use Rattle.model.specs.Items.{arcKind, Lane, Item, lane, jobOf, itemOf, bodyLength, otherThan, misfits, sizeIn, jobIn}
+use Rattle.model.specs.Items.{arcKind, Lane, Item, lane, laneOf, jobOf, itemOf, chargeBytes, bodyLength, otherThan, misfits, sizeIn, jobIn}
 use Rattle.model.specs.Stated.{lookup}
 use Rattle.model.specs.Refusals.{unknownKind, wrongLength, beginsWithHead, wrongHead, wrongSize, outsideMap, isFree, freeArc}
-use Rattle.model.specs.Refusals.{largeEstimate, twoEstimates, endsWithJob, wrongJob, jobOutsideMap, wrongGoals, goalEstimate}
+use Rattle.model.specs.Refusals.{largeEstimate, twoEstimates, mismeasured, wrongMeasure}
+use Rattle.model.specs.Refusals.{endsWithJob, wrongJob, jobOutsideMap, wrongGoals, goalEstimate}
 use Rattle.model.specs.Refusals.{shortWork, shortSheet, formRows, sizeRows, mapRows, jobRows, inputRows, roomRows, rows}
 use Rattle.model.specs.Refusals.{firstThatHolds, refusal, Accepted}
 use Rattle.model.proofs.Tests.{any-none, or-none}
@@ -46,7 +47,7 @@ lanes-end i j (a ∷ arcs) = lanes-end _ j arcs
 
 module _ (arcs : List Arc) (start goal : ℕ) where
   right-lengths : wrongLength (plainRecords arcs start goal) ≡ false
-  unfolding plainRecords wrongLength misfits itemOf bodyLength otherThan jobOf any u16 u16s put16 put32 put16s
+  unfolding plainRecords wrongLength misfits itemOf chargeBytes bodyLength otherThan laneOf jobOf any u16 u16s put16 put32 put16s
   right-lengths = withArcs-any misfits arcs _ (λ b l. rw l) refl
 
   known-kinds : unknownKind (plainItems arcs start goal) ≡ false
@@ -87,6 +88,10 @@ module _ (arcs : List Arc) (start goal : ℕ) (few : length arcs ≤ maxArcs) (o
       let (a, j, is) = Memᴰ·of-map flatLane arcs i in
       rw (← is) (ne-eqb (a .cost) 0 (λ e. omega (arith, ok .cost-above a j)))
 
+  no-wrong-measure : wrongMeasure (plainStated arcs start goal) ≡ false
+  unfolding wrongMeasure mismeasured plainStated
+  no-wrong-measure = any-none _ (map flatLane arcs) λ l i. let (a, j, is) = Memᴰ·of-map flatLane arcs i in rw (← is)
+
   no-bad-estimate : (largeEstimate (plainStated arcs start goal) ≡ false) × (twoEstimates (plainStated arcs start goal) ≡ false)
   unfolding largeEstimate twoEstimates plainStated any repeats
   no-bad-estimate = (refl, refl)
@@ -123,6 +128,7 @@ module _ (arcs : List Arc) (start goal : ℕ) (few : length arcs ≤ maxArcs) (o
         no-free-arc,
         no-bad-estimate .0,
         no-bad-estimate .1,
+        no-wrong-measure,
         right-job arcs start goal,
         job-inside-map,
         right-goals .0,

@@ -14,7 +14,7 @@ use Rattle.model.specs.Limits.{maxPlaces, maxArcs}
 use Rattle.model.specs.Problem.{Problem, Arc, Valid}
 use Rattle.model.specs.Items.{headKind, arcKind, jobKind, Lane, flat, Item, head, lane, job, headOf, laneOf, jobOf, itemOf, items}
 use Rattle.model.specs.Items.{sizeIn, laneIn, estimateIn, jobIn}
-use Rattle.model.specs.Stated.{Stated, statedBy, stated, lookup, costUnder, arcUnder, problemOf}
+use Rattle.model.specs.Stated.{Stated, fixedFactors, statedBy, stated, lookup, costUnder, arcUnder, problemOf}
 use Rattle.model.specs.Jobs.{putHead, putArc, putJob, ample}
 use Rattle.model.proofs.Bytes.{two-bytes, append-bytes, put16-is-bytes, put32-is-bytes, put16s-is-bytes}
 use Rattle.model.proofs.Records.{putRecords, Fits, AllFit, putRecords-is-bytes, frame-records}
@@ -144,7 +144,7 @@ plainStated arcs start goal =
       size = record { places = maxPlaces; arcs = length arcs };
       lanes = map flatLane arcs;
       estimates = [];
-      factors = [];
+      factors = fixedFactors;
       growth = 2;
       job = record { start = start; allowance = ample; goals = goal ∷ [] };
     }
@@ -172,19 +172,19 @@ plain-states arcs start goal =
       size = record { places = maxPlaces; arcs = length arcs };
       lanes = lanes i;
       estimates = estimates i;
-      factors = [];
+      factors = fixedFactors;
       growth = 2;
       job = headD (jobs i) (record { start = 0; allowance = 0; goals = [] });
     }
 
-arcs-back : (arcs : List Arc) → map (arcUnder []) (map flatLane arcs) ≡ arcs
+arcs-back : (factors : List ℕ) (arcs : List Arc) → map (arcUnder factors) (map flatLane arcs) ≡ arcs
 unfolding arcUnder costUnder
-arcs-back [] = refl
-arcs-back (a ∷ arcs) = ap {B = List Arc} (λ bs. a ∷ bs) (arcs-back arcs)
+arcs-back factors [] = refl
+arcs-back factors (a ∷ arcs) = ap {B = List Arc} (λ bs. a ∷ bs) (arcs-back factors arcs)
 
 pub plain-problem : (arcs : List Arc) (start goal : ℕ) → problemOf (plainStated arcs start goal) ≡ plain arcs start goal
 unfolding plain problemOf plainStated lookup
-plain-problem arcs start goal = rw (arcs-back arcs)
+plain-problem arcs start goal = rw (arcs-back fixedFactors arcs)
 
 -- ---- The fields are read back
 

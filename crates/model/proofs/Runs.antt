@@ -1,5 +1,5 @@
 -- Document 01, "Runs by hand": P1 to P10 as rows of one table, and the table as one theorem, computed from the definitions; then runs with
--- several goals.
+-- several goals, and one over lanes of all classes.
 use mathlib.Core.Path.{_≡_, refl}
 use mathlib.Core.Bool.{Bool, true, false, _&&_}
 use mathlib.Core.List.{List, [], _∷_, _++_}
@@ -7,7 +7,9 @@ use mathlib.Core.Option.{none}
 use Prim.Native.Nat.{ℕ, _-_}
 use lib.Dec.{eqb}
 use lib.ListN.{length, replicate}
-use Rattle.model.specs.Jobs.{putHead, putArc, putEstimate, putJob}
+use Rattle.model.specs.Bytes.{put16, put32, put16s}
+use Rattle.model.specs.Framing.{putRecord}
+use Rattle.model.specs.Jobs.{putHead, putArc, putMeasured, putEstimate, putJob}
 use Rattle.model.specs.Problem.{Problem}
 use Rattle.model.specs.Costs.{table}
 use Rattle.model.specs.Query.{nextLimit}
@@ -165,3 +167,21 @@ goalRuns =
 goal-runs-agree : agree goalRuns ≡ true
 unfolding compute star detour same seven over agrees agree case numbers toPlace2 toPlace3 goalRuns
 goal-runs-agree = refl
+
+-- Document 02, paper 1: a lane of each class, each at cost 48, beside ways that cost one more.
+classes : List ℕ
+classes =
+    putHead 9 13
+    ++ putMeasured 0 1 48 0 ++ putMeasured 1 2 24 1 ++ putMeasured 2 3 16 2 ++ putMeasured 3 4 12 3
+    ++ putMeasured 4 5 8 4 ++ putMeasured 5 6 6 5 ++ putMeasured 6 7 4 6 ++ putMeasured 7 8 3 7
+    ++ putArc 0 2 97 ++ putArc 2 4 97 ++ putArc 4 6 97 ++ putArc 6 8 97 ++ putMeasured 0 8 385 0
+    ++ putEstimate 4 190
+
+-- by all nine places at cost 384
+overAll : List ℕ
+overAll = putRecord 17 (put32 384 ++ put16 9 ++ put16s (0 ∷ 1 ∷ 2 ∷ 3 ∷ 4 ∷ 5 ∷ 6 ∷ 7 ∷ 8 ∷ []))
+
+-- its numbers are those of tests/reference.py
+class-run-agrees : agrees (case (classes ++ putJob 0 2124 (8 ∷ [])) (numbers 0 384 764 0 64 22 28) 170 overAll) ≡ true
+unfolding compute classes same seven over agrees case numbers overAll
+class-run-agrees = refl

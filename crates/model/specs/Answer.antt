@@ -47,7 +47,7 @@ pub record Result : Type 0 where
 unfoldable pub overFront : List ℕ → List ℕ → List ℕ
 overFront new area = new ++ drop (length new) area
 
--- "For 1 to 15 … all but the first are 0, and input, work area and sheet area are unchanged."
+-- "For 1 to 15, and for later refusals whose paper says nothing else, all but the first are 0, and input, work area and sheet area are unchanged."
 unfoldable pub refusedWith : ℕ → (work sheet : List ℕ) → Result
 refusedWith n work sheet = record { answer = answer n 0 0 0 0 0 0; work = work; sheet = sheet }
 

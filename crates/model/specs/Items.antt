@@ -1,4 +1,4 @@
--- Document 01, "Records": what a record of each kind says. Kinds, fields and body lengths stand here and nowhere else.
+-- Document 01, "Records", and document 02: what a record of each kind says. Kinds, fields and body lengths stand here and nowhere else.
 use mathlib.Core.Bool.{Bool, false, cond, not}
 use mathlib.Core.List.{List, map}
 use mathlib.Core.Option.{Option, none, some}
@@ -20,6 +20,10 @@ estimateKind = 3
 abbrev pub jobKind : ℕ
 jobKind = 4
 
+-- an arc with a length and a class
+abbrev pub measuredKind : ℕ
+measuredKind = 5
+
 -- how many bytes a body has; a job's, before its goals
 abbrev pub headBytes : ℕ
 headBytes = 4
@@ -33,14 +37,18 @@ estimateBytes = 6
 abbrev pub jobBytes : ℕ
 jobBytes = 8
 
+abbrev pub measuredBytes : ℕ
+measuredBytes = 8
+
 -- head: places N, arcs M
 pub record Size : Type 0 where
   pub places : ℕ
   pub arcs : ℕ
 
--- What a lane's record says of its cost: the cost itself.
+-- What a lane's record says of its cost: the cost itself, or a length and a class.
 pub data Charge : Type 0 where
   flat : (cost : ℕ) → Charge
+  measured : (length class : ℕ) → Charge
 
 -- An arc record. What it says is kept apart from the arc that it becomes under a table of factors.
 pub record Lane : Type 0 where
@@ -63,7 +71,7 @@ pub data Item : Type 0 where
   lane : Lane → Item
   estimate : Estimate → Item
   job : Job → Item
-  -- a kind that document 01 does not have
+  -- a kind that the papers do not have
   other : Item
 
 -- head: places N (2 bytes), arcs M (2)
@@ -73,6 +81,10 @@ headOf b = record { places = u16 b 0; arcs = u16 b 2 }
 -- arc: from (2), to (2), cost (2)
 unfoldable pub laneOf : List ℕ → Lane
 laneOf b = record { from = u16 b 0; to = u16 b 2; charge = flat (u16 b 4) }
+
+-- Document 02, paper 1: "arc records of kind 5: from, to, length, class, each 2 bytes"
+unfoldable pub measuredOf : List ℕ → Lane
+measuredOf b = record { from = u16 b 0; to = u16 b 2; charge = measured (u16 b 4) (u16 b 6) }
 
 -- estimate: place (2), estimate (4)
 unfoldable pub estimateOf : List ℕ → Estimate
@@ -88,12 +100,17 @@ itemOf r =
     cond (eqb (r .kind) headKind) (head (headOf b))
     (cond (eqb (r .kind) arcKind) (lane (laneOf b))
     (cond (eqb (r .kind) estimateKind) (estimate (estimateOf b))
-    (cond (eqb (r .kind) jobKind) (job (jobOf b)) other)))
+    (cond (eqb (r .kind) jobKind) (job (jobOf b))
+    (cond (eqb (r .kind) measuredKind) (lane (measuredOf b)) other))))
+
+unfoldable pub chargeBytes : Charge → ℕ
+chargeBytes (flat cost) = arcBytes
+chargeBytes (measured length class) = measuredBytes
 
 -- How many bytes the body of a record has that says this. "A job needs 8 bytes or more, and exactly 8 + 2 × k."
 unfoldable pub bodyLength : Item → Option ℕ
 bodyLength (head s) = some headBytes
-bodyLength (lane l) = some arcBytes
+bodyLength (lane l) = some (chargeBytes (l .charge))
 bodyLength (estimate e) = some estimateBytes
 bodyLength (job j) = some (jobBytes + 2 * length (j .goals))
 bodyLength other = none

@@ -1,4 +1,4 @@
--- Inputs as bytes: the four kinds of record, and a job for every sheet that a reader may accept.
+-- Inputs as bytes: the kinds of record, and a job for every sheet that a reader may accept.
 use mathlib.Core.Bool.{cond}
 use mathlib.Core.List.{List, [], _∷_, _++_, getLastD, headD}
 use Prim.Native.Nat.{ℕ, zero, suc, _-_, _*_, min}
@@ -7,13 +7,16 @@ use lib.ListN.{length}
 use Rattle.model.specs.Bytes.{put16, put32, put16s}
 use Rattle.model.specs.Framing.{putRecord}
 use Rattle.model.specs.Limits.{maxPlaces, maxCost}
-use Rattle.model.specs.Items.{headKind, arcKind, estimateKind, jobKind}
+use Rattle.model.specs.Items.{headKind, arcKind, estimateKind, jobKind, measuredKind}
 
 unfoldable pub putHead : ℕ → ℕ → List ℕ
 putHead n m = putRecord headKind (put16 n ++ put16 m)
 
 unfoldable pub putArc : ℕ → ℕ → ℕ → List ℕ
 putArc u v c = putRecord arcKind (put16 u ++ put16 v ++ put16 c)
+
+unfoldable pub putMeasured : (from to length class : ℕ) → List ℕ
+putMeasured u v length class = putRecord measuredKind (put16 u ++ put16 v ++ put16 length ++ put16 class)
 
 unfoldable pub putEstimate : ℕ → ℕ → List ℕ
 putEstimate v h = putRecord estimateKind (put16 v ++ put32 h)

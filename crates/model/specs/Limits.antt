@@ -1,4 +1,4 @@
--- The numbers that document 01 sets as limits.
+-- The numbers that the papers set as limits.
 use Prim.Native.Nat.{ℕ}
 
 abbrev pub maxPlaces : ℕ
@@ -15,3 +15,10 @@ maxEstimate = 268435455
 
 abbrev pub maxGoals : ℕ
 maxGoals = 64
+
+-- document 02, paper 1: "Length is 1 to 4,095", "classes 0 to 7"
+abbrev pub maxLength : ℕ
+maxLength = 4095
+
+abbrev pub maxClass : ℕ
+maxClass = 7

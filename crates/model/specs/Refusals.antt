@@ -1,4 +1,5 @@
--- Document 01, "Turned down, by who can cause it": each condition of 1 to 15 beside the paper's words, in groups, and the number that is given.
+-- Document 01, "Turned down, by who can cause it", with document 02's own numbers: each condition beside the paper's words, in groups, and the
+-- number that is given.
 use mathlib.Core.Path.{_≡_}
 use mathlib.Core.Bool.{Bool, false, cond, not, _||_}
 use mathlib.Core.List.{List, [], _∷_, _++_, map}
@@ -7,13 +8,13 @@ use lib.Dec.{ltb, leb, eqb}
 use lib.ListN.{length}
 use Rattle.model.specs.Lists.{any, filterMap, isGiven, repeats, rises}
 use Rattle.model.specs.Framing.{Record, Framed, frame}
-use Rattle.model.specs.Limits.{maxPlaces, maxArcs, maxEstimate, maxGoals}
-use Rattle.model.specs.Items.{Size, Charge, flat, Lane, Estimate, Item, bodyLength, misfits, items, sizeIn, jobIn}
+use Rattle.model.specs.Limits.{maxPlaces, maxArcs, maxEstimate, maxGoals, maxLength, maxClass}
+use Rattle.model.specs.Items.{Size, Charge, flat, measured, Lane, Estimate, Item, bodyLength, misfits, items, sizeIn, jobIn}
 use Rattle.model.specs.Stated.{Stated, stated, lookup}
 
 -- ---- Form: what records there are
 
--- 2: "a kind other than 1 to 4"
+-- 2: "a kind other than 1 to 4", and document 02: "2 and 3 follow each new kind"
 unfoldable pub unknownKind : List Item → Bool
 unknownKind is = any (λ (i : Item). not (isGiven (bodyLength i))) is
 
@@ -49,8 +50,9 @@ outsideMap s =
 
 unfoldable pub isFree : Charge → Bool
 isFree (flat cost) = eqb cost 0
+isFree (measured length class) = false
 
--- 7: "an arc of cost 0"
+-- 7: "an arc of cost 0"; "7 stays with kind 2"
 unfoldable pub freeArc : Stated → Bool
 freeArc s = any (λ (l : Lane). isFree (l .charge)) (s .lanes)
 
@@ -61,6 +63,14 @@ largeEstimate s = any (λ (e : Estimate). ltb maxEstimate (e .value)) (s .estima
 -- 9: "two estimates for one place"
 unfoldable pub twoEstimates : Stated → Bool
 twoEstimates s = repeats (map (λ (e : Estimate). e .place) (s .estimates))
+
+unfoldable pub mismeasured : Charge → Bool
+mismeasured (flat cost) = false
+mismeasured (measured length class) = ltb length 1 || ltb maxLength length || ltb maxClass class
+
+-- 20: "a kind 5 record with a length or class out of range"
+unfoldable pub wrongMeasure : Stated → Bool
+wrongMeasure s = any (λ (l : Lane). mismeasured (l .charge)) (s .lanes)
 
 -- ---- Job
 
@@ -129,7 +139,7 @@ unfoldable pub sizeRows : Stated → List Row
 sizeRows s = row 5 (wrongSize s) ∷ []
 
 unfoldable pub mapRows : Stated → List Row
-mapRows s = row 6 (outsideMap s) ∷ row 7 (freeArc s) ∷ row 8 (largeEstimate s) ∷ row 9 (twoEstimates s) ∷ []
+mapRows s = row 6 (outsideMap s) ∷ row 7 (freeArc s) ∷ row 8 (largeEstimate s) ∷ row 9 (twoEstimates s) ∷ row 20 (wrongMeasure s) ∷ []
 
 unfoldable pub jobRows : List Item → Stated → List Row
 jobRows is s = row 10 (wrongJob is) ∷ row 11 (jobOutsideMap s) ∷ row 12 (wrongGoals s) ∷ row 13 (goalEstimate s) ∷ []
@@ -152,7 +162,7 @@ unfoldable pub firstThatHolds : List Row → ℕ
 firstThatHolds [] = 0
 firstThatHolds (r ∷ rs) = cond (r .holds) (r .number) (firstThatHolds rs)
 
--- "The lowest number whose condition holds is given, and none otherwise": 0 is acceptance.
+-- "The lowest number whose condition holds is given, and none otherwise"; document 02 puts its own between these. 0 is acceptance.
 unfoldable pub refusal : Framed → (words bytes : ℕ) → ℕ
 refusal f words bytes = firstThatHolds (rows f words bytes)
 

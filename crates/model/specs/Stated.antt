@@ -1,13 +1,14 @@
--- What the records of an input state, as one thing, and the search problem that is made of it. Of kinds that document 01 allows once, the
+-- What the records of an input state, as one thing, and the search problem that is made of it. Of kinds that the papers allow once, the
 -- first record is read.
 use mathlib.Core.Bool.{cond}
 use mathlib.Core.List.{List, [], _∷_, map, headD}
-use Prim.Native.Nat.{ℕ}
+use Prim.Native.Nat.{ℕ, _*_}
 use lib.Dec.{eqb}
+use lib.ListN.{getD}
 use Rattle.model.specs.Lists.{filterMap}
 use Rattle.model.specs.Framing.{Record, frame}
 use Rattle.model.specs.Problem.{Problem, Arc}
-use Rattle.model.specs.Items.{Size, Charge, flat, Lane, Estimate, Job, Item, items, sizeIn, laneIn, estimateIn, jobIn}
+use Rattle.model.specs.Items.{Size, Charge, flat, measured, Lane, Estimate, Job, Item, items, sizeIn, laneIn, estimateIn, jobIn}
 
 pub record Stated : Type 0 where
   pub size : Size
@@ -26,14 +27,18 @@ noSize = record { places = 0; arcs = 0 }
 abbrev pub noJob : Job
 noJob = record { start = 0; allowance = 0; goals = [] }
 
--- Document 01 has no classes of lanes, and "b doubles".
+-- Document 02, paper 1: "The fixed factors for classes 0 to 7 are 1, 2, 3, 4, 6, 8, 12, 16."
+abbrev pub fixedFactors : List ℕ
+fixedFactors = 1 ∷ 2 ∷ 3 ∷ 4 ∷ 6 ∷ 8 ∷ 12 ∷ 16 ∷ []
+
+-- No record states other factors or another growth: "b doubles".
 unfoldable pub statedBy : List Item → Stated
 statedBy is =
     record {
       size = headD (filterMap sizeIn is) noSize;
       lanes = filterMap laneIn is;
       estimates = filterMap estimateIn is;
-      factors = [];
+      factors = fixedFactors;
       growth = 2;
       job = headD (filterMap jobIn is) noJob;
     }
@@ -50,9 +55,10 @@ unfoldable pub lookup : ℕ → List Estimate → ℕ → ℕ
 lookup default [] v = default
 lookup default (e ∷ es) v = cond (eqb (e .place) v) (e .value) (lookup default es v)
 
--- what a lane costs under a table of factors
+-- What a lane costs under a table of factors: "length times the factor of the class".
 unfoldable pub costUnder : List ℕ → Charge → ℕ
 costUnder factors (flat cost) = cost
+costUnder factors (measured length class) = length * getD factors class 0
 
 unfoldable pub arcUnder : List ℕ → Lane → Arc
 arcUnder factors l = record { from = l .from; to = l .to; cost = costUnder factors (l .charge) }

@@ -1,1 +1,1 @@
-// No code: document 01 as definitions (specs/) and the laws about them (proofs/).
+// No code: the papers as definitions (specs/) and the laws about them (proofs/).

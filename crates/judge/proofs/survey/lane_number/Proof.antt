@@ -1,5 +1,4 @@
 -- `survey::lane_number` meets its contract, by its tests. Assumes nothing.
-use borrow.Author.Tests.{eq-eqb, ne-eqb}
 use borrow.Author.Needs.{needs}
 use Rattle.judge.proofs.survey.lane_number.Statement.{statement}
 use Rattle.judge.proofs.survey.lane_number.Tie as tie
@@ -8,13 +7,10 @@ returns : tie.Need-returns
 returns c = search needs
 
 returns-2 : tie.Need-returns-2
-returns-2 c = simp (c .before .before .before .if1 .left, c .if2 .taken)
+returns-2 c = simp (c .before .if1 .left, c .if2 .taken)
 
 returns-3 : tie.Need-returns-3
-returns-3 c = simp (c .before .before .before .before .before .if1 .left, c .before .before .if2 .left, eq-eqb _ _ (c .if3 .taken))
-
-returns-4 : tie.Need-returns-4
-returns-4 c = simp (c .before .before .before .before .before .if1 .left, c .before .before .if2 .left, ne-eqb _ _ (c .if3 .left))
+returns-3 c = simp (c .before .if1 .left, c .if2 .left)
 
 pub lane-number-spec : {M : Type 1} → statement M
-lane-number-spec = tie.close (tie.spec returns returns-2 returns-3 returns-4)
+lane-number-spec = tie.close (tie.spec returns returns-2 returns-3)

@@ -1,7 +1,7 @@
 -- `survey::with_item` meets its contract, kind by kind. Assumes nothing.
 use mathlib.Core.Path.{refl}
-use borrow.Author.Needs.{needs}
 use Rattle.judge.specs.Survey.{noted, marksBy}
+use borrow.Author.Needs.{needs}
 use Rattle.judge.proofs.survey.with_item.Statement.{statement}
 use Rattle.judge.proofs.survey.with_item.Tie as tie
 
@@ -14,17 +14,29 @@ with-head-requires c κs = search needs
 enum-known-item-2 : tie.Need-enum-known-item-2
 enum-known-item-2 c = search needs
 
+cost-number-requires : tie.Need-cost-number-requires
+cost-number-requires c κs = search needs
+
 with-lane-requires : tie.Need-with-lane-requires
 with-lane-requires c κs = search needs
 
 enum-known-item-3 : tie.Need-enum-known-item-3
 enum-known-item-3 c = search needs
 
-with-estimate-requires : tie.Need-with-estimate-requires
-with-estimate-requires c κs = search needs
+measure-number-requires : tie.Need-measure-number-requires
+measure-number-requires c κs = search needs
+
+with-lane-requires-2 : tie.Need-with-lane-requires-2
+with-lane-requires-2 c κs = search needs
 
 enum-known-item-4 : tie.Need-enum-known-item-4
 enum-known-item-4 c = search needs
+
+with-estimate-requires : tie.Need-with-estimate-requires
+with-estimate-requires c κs = search needs
+
+enum-known-item-5 : tie.Need-enum-known-item-5
+enum-known-item-5 c = search needs
 
 with-job-requires : tie.Need-with-job-requires
 with-job-requires c κs = search needs
@@ -47,22 +59,30 @@ returns c = rw (c .before .before .item .given .1) (record { survey = c .with-he
 
 returns-2 : tie.Need-returns-2
 unfolding noted marksBy
-returns-2 c = rw (c .before .before .item2 .given .1) (record { survey = c .with-lane .ensures; mark = refl })
+returns-2 c =
+    let own = c .before .cost-number .ensures in
+    rw (c .before .before .before .item2 .given .1) (record { survey = rw own at (c .with-lane .ensures); mark = refl })
 
 returns-3 : tie.Need-returns-3
-returns-3 c = rw (c .before .before .before .item3 .given .1) (c .with-estimate .ensures)
+unfolding noted marksBy
+returns-3 c =
+    let own = c .before .measure-number .ensures in
+    rw (c .before .before .before .item3 .given .1) (record { survey = rw own at (c .with-lane2 .ensures); mark = refl })
 
 returns-4 : tie.Need-returns-4
-unfolding noted marksBy
-returns-4 c = rw (c .before .before .item4 .given .1) (record { survey = c .with-job .ensures; mark = refl })
+returns-4 c = rw (c .before .before .before .item4 .given .1) (c .with-estimate .ensures)
 
 returns-5 : tie.Need-returns-5
 unfolding noted marksBy
-returns-5 c = rw (c .before .enum-told .given .1) (record { survey = c .after .ensures; mark = refl })
+returns-5 c = rw (c .before .before .item5 .given .1) (record { survey = c .with-job .ensures; mark = refl })
 
 returns-6 : tie.Need-returns-6
 unfolding noted marksBy
-returns-6 c = rw (c .before .enum-told2 .given .1) (record { survey = c .after2 .ensures; mark = refl })
+returns-6 c = rw (c .before .enum-told .given .1) (record { survey = c .after .ensures; mark = refl })
+
+returns-7 : tie.Need-returns-7
+unfolding noted marksBy
+returns-7 c = rw (c .before .enum-told2 .given .1) (record { survey = c .after2 .ensures; mark = refl })
 
 pub with-item-spec : {M : Type 1} → statement M
 with-item-spec =
@@ -71,10 +91,14 @@ with-item-spec =
     enum-known-item
     with-head-requires
     enum-known-item-2
+    cost-number-requires
     with-lane-requires
     enum-known-item-3
-    with-estimate-requires
+    measure-number-requires
+    with-lane-requires-2
     enum-known-item-4
+    with-estimate-requires
+    enum-known-item-5
     with-job-requires
     enum-told
     after-requires
@@ -85,4 +109,5 @@ with-item-spec =
     returns-3
     returns-4
     returns-5
-    returns-6)
+    returns-6
+    returns-7)
