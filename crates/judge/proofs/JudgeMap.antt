@@ -108,7 +108,7 @@ module _ (input marks : List ℕ) (s : Survey) (f : Formed input marks s) where
     pub arcs-refused : map .arcs ≢ s .lanes → Judged input (Refused 5)
     arcs-refused h = size-refused (rw (w .in-range, ne-eqb (s .arcs) (s .lanes) λ e. h (w .arcs ∙ e)))
 
-    -- 6 to 10
+    -- 6 to 9, 20 and 10
     module _ (counted : map .arcs ≡ s .lanes) where
       right-size : wrongSize st ≡ false
       right-size = sym size-same ∙ rw (w .in-range, eq-eqb (s .arcs) (s .lanes) (sym (w .arcs) ∙ counted))

@@ -139,7 +139,7 @@ said-fits (r ∷ rs) e =
 abbrev framed : List Record → Framed
 framed rs = record { records = rs; broken = false }
 
--- what the records are given by themselves is the number of 1 to 4 and 6 to 9
+-- what the records are given by themselves is the number of 1 to 4, 6 to 9 and 20
 rows-form : (r : Record) (rs : List Record) (n : ℕ)
     → numberOr noNumber (itemRows (unknownKind (model.items (r ∷ rs))) (wrongLength (r ∷ rs)) n (said (r ∷ rs)))
     ≡ numberOr noNumber (formRows (framed (r ∷ rs)) ++ mapRows (placed n (stated (r ∷ rs))))

@@ -27,7 +27,7 @@ pub record Formed (input : List ℕ) (marks : List ℕ) (s : Survey) : Type 0 wh
   pub number : s .number ≡ numberOr noNumber (mapRows (placed (s .places) (statedIn input)))
   pub states : Stating input marks s
 
--- none of 1 to 10 holds: the one job is the last record
+-- none of 1 to 10 and 20 holds: the one job is the last record
 pub record OneJob (input : List ℕ) (marks : List ℕ) (s : Survey) : Type 0 where
   pub places : s .places ≡ statedIn input .size .places
   pub few : s .places ≤ maxPlaces

@@ -14,7 +14,7 @@ const ESTIMATE_KIND: u16 = 3;
 
 const JOB_KIND: u16 = 4;
 
-// An arc with a length and a class.
+// An arc that is measured: it has a length and a class in place of a cost.
 const MEASURED_KIND: u16 = 5;
 
 // The papers' kinds are those from 1 on up to this one.
@@ -80,6 +80,7 @@ pub struct Size {
     pub arcs: usize,
 }
 
+// An arc with a cost, and one with a length and a class.
 pub struct Lane {
     pub from: usize,
     pub to: usize,

@@ -40,7 +40,7 @@ pub record Demand1 (c : Call) (r : Result) : Type 0 where
   pub refused : (earlier : List Row) (n : ℕ) (later : List Row)
       → rows (frame (c .input)) (length (c .work)) (length (c .sheet)) ≡ earlier ++ (record { number = n; holds = true } ∷ later)
       → NoneHolds earlier → r ≡ record { answer = answer n 0 0 0 0 0 0; work = c .work; sheet = c .sheet }
-  -- and where no row holds the number is none of 1 to 15
+  -- and where no row holds the number is no refusal's
   pub accepted : NoneHolds (rows (frame (c .input)) (length (c .work)) (length (c .sheet)))
       → (r .answer .number ≡ 0) ⊎ ((r .answer .number ≡ 16) ⊎ (r .answer .number ≡ 17))
 
