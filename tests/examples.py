@@ -41,6 +41,7 @@ BAD = [
     ('places 2 arcs -1', "line 1: '-1' is not a number from 0 to 65535"),
     ('places 9\n' + 'arc from 0 to 1 cost 1\n' * 65536, "line 1: '65536' is not a number from 0 to 65535"),
     ('places 2\narc 0 1 cost 1', 'line 2: expected: arc from PLACE to PLACE cost NUMBER, or .. length NUMBER class NUMBER'),
+    ('arc from 0 to 1 cost 1 2', 'line 1: expected: arc from PLACE to PLACE cost NUMBER, or .. length NUMBER class NUMBER'),
     ('arc from 0 to 1 length 5', 'line 1: expected: arc from PLACE to PLACE cost NUMBER, or .. length NUMBER class NUMBER'),
     ('arc from 0 to 1 length 5 class 65536', "line 1: '65536' is not a number from 0 to 65535"),
     ('estimate at 0', 'line 1: expected: estimate at PLACE is NUMBER'),

@@ -234,15 +234,15 @@ module _ (input : List ℕ) (r : Record) (lies : LiesIn input r) where
   pub none-fits : outside ≡ false → r .kind ≢ model.jobKind → FitsNot model.headKind model.headBytes → FitsNot model.arcKind model.arcBytes
       → FitsNot model.estimateKind model.estimateBytes → FitsNot model.measuredKind model.measuredBytes → Says input r Misfit
   unfolding model.bodyLength model.chargeBytes model.laneOf model.measuredOf
-  none-fits inside no-job no-head no-lane no-estimate no-measured = go (model.itemOf whole) (kind-of whole) refl
+  none-fits inside no-job no-head no-lane no-estimate no-measured = go (kind-of whole)
     where
-      go : (i : model.Item) → KindOf whole i → model.itemOf whole ≡ i → Says input r Misfit
-      go (model.head s) (is-head k) e = misfit-says _ _ (head-item whole k) refl (not-both _ _ _ _ no-head k)
-      go (model.lane l) (is-lane k) e = misfit-says _ _ (lane-item whole k) refl (not-both _ _ _ _ no-lane k)
-      go (model.lane l) (is-measured k) e = misfit-says _ _ (measured-item whole k) refl (not-both _ _ _ _ no-measured k)
-      go (model.estimate s) (is-estimate k) e = misfit-says _ _ (estimate-item whole k) refl (not-both _ _ _ _ no-estimate k)
-      go (model.job j) (is-job k) e = absurd (no-job k)
-      go model.other (is-other a b c d f) e =
+      go : {i : model.Item} → KindOf whole i → Says input r Misfit
+      go (is-head k) = misfit-says _ _ (head-item whole k) refl (not-both _ _ _ _ no-head k)
+      go (is-lane k) = misfit-says _ _ (lane-item whole k) refl (not-both _ _ _ _ no-lane k)
+      go (is-measured k) = misfit-says _ _ (measured-item whole k) refl (not-both _ _ _ _ no-measured k)
+      go (is-estimate k) = misfit-says _ _ (estimate-item whole k) refl (not-both _ _ _ _ no-estimate k)
+      go (is-job k) = absurd (no-job k)
+      go (is-other a b c d f) =
           let range = neither (ltb (r .kind) model.headKind) _ inside in
           let low = first-kinds (r .kind) (ltb-false (r .kind) model.headKind (range .0)) a b c in
           absurd (last-kinds (r .kind) low (ltb-false model.measuredKind (r .kind) (range .1)) d f)
