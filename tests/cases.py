@@ -8,7 +8,8 @@ crates/cases/stdout has the number of cases in each group.
 
 A case is 12 numbers of 4 bytes, little-endian: its group, bytes of the input, words lent, bytes lent, the seven numbers of the answer, and how many
 work words are 0 after the call; then the input; then the sheet. The answers are those of tests/reference.py. They must be what document 01 says of
-its own runs, and number and cost must be what the Boost Graph Library says of random maps; otherwise nothing is made."""
+its own runs; number and cost must be what the Boost Graph Library says of random maps; and where the number of places decides between cheapest
+routes, the route must be the first of all that there are. Otherwise nothing is made."""
 import os
 import random
 import struct
@@ -18,9 +19,10 @@ import sys
 from by_hand import lines, runs
 from edges import ends_of_fields, ends_of_records, refused
 from inputs import Graph, any_estimates, as_measured, classes, damaged, records_before_job, some_graph, some_map
-from reference import ARCS, COST, ESTIMATE, GOALS, ORDER, PLACES, arc, estimate, head, job, route, u16
+from reference import ARCS, COST, ESTIMATE, GOALS, ORDER, PLACES, Problem, arc, estimate, head, job, route, u16
+from ties import along_a_line, ties
 
-DOCUMENT, REFUSALS, ENDS, CONSISTENT, GAPS, OVERSTATING, DAMAGED = range(7)
+DOCUMENT, REFUSALS, ENDS, CONSISTENT, GAPS, OVERSTATING, DAMAGED, FEWEST = range(8)
 NUMBERS = struct.Struct('<12I')
 STORED = os.path.join(os.path.dirname(__file__), '..', 'crates', 'cases', 'stdin')
 
@@ -122,6 +124,45 @@ def some_damage(rnd):
     return case(DAMAGED, damaged(rnd, records), *(need + rnd.choice([0, 1, -1]) for need in needs(records[0])))
 
 
+def all_routes(p, limit, cost):
+    """cost, number of places, and places from the goal back, of every route within the limit that costs no more"""
+    ways = [(0, [p.start])] if p.h[p.start] <= limit else []
+    while ways:
+        so_far, back = ways.pop()
+        if back[0] in p.goals:
+            yield so_far, len(back), back
+        ways += [(so_far + c, [v, *back]) for v, c in p.out[back[0]] if v not in back and so_far + c <= min(cost, limit - p.h[v])]
+
+
+def first_routes(data):
+    """the first route's places, which must be those of the first of all routes, and of the one that would be first if places were not counted"""
+    answer, sheet = route(data, *needs(data))
+    routes = list(all_routes(Problem(data), answer[2], answer[1]))
+    first, uncounted = min(routes), min(routes, key=lambda r: (r[0], r[2]))
+    places = [u16(sheet, i) for i in range(10, len(sheet), 2)]
+    if first != (answer[1], len(places), places[::-1]):
+        sys.exit(f'{first} is the first of all routes, {answer} {places} by the reference: {data.hex()}')
+    return places, uncounted[2][::-1]
+
+
+def counted(rnd, count):
+    """the maps by hand, and so many random ones whose first route would be another if places were not counted"""
+    for tie in ties():
+        if first_routes(tie.data) != (tie.first, tie.uncounted):
+            sys.exit(f'not as by hand: {tie}, {first_routes(tie.data)}')
+        yield case(FEWEST, tie.data, *needs(tie.data))
+    while count:
+        graph, far = along_a_line(rnd, rnd.randint(8, 20))
+        high = rnd.choice([0, 0, 0.1])  # how many estimates keep routes out of the limit
+        estimates = [9 * d if rnd.random() < high else h for h, d in zip(some_estimates(rnd, graph, far), far)]
+        data = b''.join(records_before_job(rnd, graph, estimates)) + job(far.index(max(far)), 236 * graph.places, graph.goals)
+        if route(data, *needs(data))[0][0] == 0:
+            first, uncounted = first_routes(data)
+            if first != uncounted:
+                count -= 1
+                yield case(FEWEST, data, *needs(data))
+
+
 def all_cases(program):
     rnd = random.Random(1)
     sizes = [200] * 4 + [rnd.randint(2, rnd.randint(2, 60)) for _ in range(496)]
@@ -131,6 +172,7 @@ def all_cases(program):
     yield from (case(ENDS, data, *needs(data)) for data in (*ends_of_fields(), *ends_of_records(), *largest(*whole)))
     yield from (some_case(rnd, *graph) for graph in graphs)
     yield from (some_damage(rnd) for _ in range(80))
+    yield from counted(rnd, 100)
 
 
 def stored():

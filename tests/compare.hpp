@@ -52,6 +52,9 @@ class Comparison {
         return all;
     }
 
+    // whether the route of the last call would be another if arcs were not counted
+    bool arcs_decide() const { return answer.number == 0 && router_.arcs_decide(); }
+
     plain::Answer answer;             // by hand, of the last call
     const uint8_t *written = nullptr; // the router's sheet area after it
 

@@ -69,7 +69,7 @@ def overstates(data):
     for place, estimate in enumerate(estimates):
         p.start = place
         costs = p.least(65535 * p.n)
-        if any(costs.get(goal, estimate) < estimate for goal in p.goals):
+        if any(goal in costs and costs[goal][0] < estimate for goal in p.goals):
             return True
     return False
 

@@ -38,13 +38,19 @@ class Maps {
     void add_arcs(Map &m, size_t count, uint32_t dear)
     {
         uint32_t reach = below(2) == 0 ? m.places : 4; // a small reach makes long routes
+        bool level = below(4) == 0;                    // an arc costs its steps, so that routes of many arcs and of few cost the same
+        std::vector<uint32_t> ring(m.places);
+        std::iota(ring.begin(), ring.end(), 0);
+        if (level)
+            std::shuffle(ring.begin(), ring.end(), chance_);
         for (size_t i = 0; i < count; i++) {
-            uint32_t from = below(m.places), way = below(16);
+            uint32_t at = below(m.places), way = below(16), steps = way == 1 ? 0 : 1 + below(reach);
             if (way == 0 && i != 0)
                 m.arcs.push_back(m.arcs.back()); // a parallel arc
             else
-                m.arcs.push_back({from, way == 1 ? from : (from + 1 + below(reach)) % m.places, 0, plain::none});
-            m.arcs.back().cost = 1 + below(dear);
+                m.arcs.push_back({ring[at], ring[(at + steps) % m.places], std::max(steps, 1u), plain::none});
+            if (!level)
+                m.arcs.back().cost = 1 + below(dear);
             m.arcs.back().lane_class = some_class(m.arcs.back().cost);
         }
         auto to_goal = [&](const Arc &a) { return std::binary_search(m.goals.begin(), m.goals.end(), a.to); };

@@ -1,5 +1,5 @@
-"""Document 01 and document 02's paper 1 once more, in Python and as plainly as possible: the second source that tests hold the router's answers
-against."""
+"""Document 01 and document 02's papers 1 and 2 once more, in Python and as plainly as possible: the second source that tests hold the router's
+answers against."""
 import heapq
 
 PLACES, ARCS, COST, ESTIMATE, GOALS = 4096, 16384, 65535, 268435455, 64
@@ -139,36 +139,38 @@ class Problem:
         self.goals = {u16(body, i) for i in range(8, len(body), 2)}
 
     def least(self, limit):
-        """D of every place within the limit"""
-        done, heap = {}, [(0, self.start)] if self.h[self.start] <= limit else []
+        """D of every place within the limit, with the fewest arcs of a path at that cost"""
+        done, heap = {}, [(0, 0, self.start)] if self.h[self.start] <= limit else []
         while heap:
-            d, u = heapq.heappop(heap)
+            d, arcs, u = heapq.heappop(heap)
             if u not in done:
-                done[u] = d
+                done[u] = d, arcs
                 for v, c in self.out[u]:
                     if d + c + self.h[v] <= limit:
-                        heapq.heappush(heap, (d + c, v))
+                        heapq.heappush(heap, (d + c, arcs + 1, v))
         return done
 
     def query(self, limit, budget):
-        """outcome, number, cost, D, first goal"""
-        d = self.least(limit)
-        order = sorted(d, key=lambda v: (d[v], v))
+        """outcome, number, cost, least"""
+        least = self.least(limit)
+        order = sorted(least, key=lambda v: (least[v][0], v))
         goal = next((v for v in order if v in self.goals), None)
         length = len(order) if goal is None else order.index(goal)
         if length > budget:
-            return 'over', None, budget, d, goal
+            return 'over', None, budget, least
         if goal is not None:
-            return 'found', None, length, d, goal
-        sums = [d[u] + c + self.h[v] for u in d for v, c in self.out[u] if v not in d]
-        return ('ended', min(sums), length, d, goal) if sums else ('none', None, length, d, goal)
+            return 'found', None, length, least
+        sums = [least[u][0] + c + self.h[v] for u in least for v, c in self.out[u] if v not in least]
+        return ('ended', min(sums), length, least) if sums else ('none', None, length, least)
 
-    def route(self, d, goal):
+    def route(self, least):
+        """cost and places: of the cheapest those with the fewest arcs, of these the lowest numbers from the goal back"""
+        goal = min((g for g in self.goals if g in least), key=lambda g: (least[g], g))
         places = [goal]
         while places[0] != self.start:
-            v = places[0]
-            places.insert(0, min(u for u, c in self.into[v] if u in d and d[u] + c == d[v]))
-        return places
+            d, arcs = least[places[0]]
+            places.insert(0, min(u for u, c in self.into[places[0]] if least.get(u) == (d - c, arcs - 1)))
+        return least[goal][0], places
 
 
 def route(data, words, sheet):
@@ -181,7 +183,7 @@ def route(data, words, sheet):
     while True:
         limit = 2 * low if high is None else (low + high) // 2
         queries += 1
-        outcome, number, cost, d, goal = p.query(limit, b)
+        outcome, number, cost, least = p.query(limit, b)
         if total + cost > p.allowance:
             return (16, 0, 0, low, p.allowance, queries, 0), b''
         total += cost
@@ -189,9 +191,9 @@ def route(data, words, sheet):
             s = record(18, p16(p.start))
             return (17, 0, limit, 0, total, queries, len(s)), s
         if outcome == 'found':
-            places = p.route(d, goal)
-            s = record(17, d[goal].to_bytes(4, 'little') + p16(len(places)) + b''.join(map(p16, places)))
-            return (0, d[goal], limit, 0, total, queries, len(s)), s
+            cost, places = p.route(least)
+            s = record(17, cost.to_bytes(4, 'little') + p16(len(places)) + b''.join(map(p16, places)))
+            return (0, cost, limit, 0, total, queries, len(s)), s
         if outcome == 'ended':
             low = number
         else:

@@ -22,7 +22,7 @@ const CASES: u64 = 10000;
 // The bytes of a case's numbers, and how many groups there are.
 const FRONT: usize = 48;
 
-const GROUPS: usize = 7;
+const GROUPS: usize = 8;
 
 // A case's numbers: bytes of its input, words and bytes lent, the answer, and the work words that are 0 after the call.
 struct Case {
@@ -99,7 +99,8 @@ fn print_name(group: usize) {
         3 => print(b"consistent estimates"),
         4 => print(b"admissible estimates with gaps"),
         5 => print(b"overstating estimates"),
-        _ => print(b"damaged inputs"),
+        6 => print(b"damaged inputs"),
+        _ => print(b"fewest places"),
     }
 }
 

@@ -1,4 +1,4 @@
--- What the words of the area say of labels and parents. Assumes nothing.
+-- What the words of the area say of labels, depths and parents. Assumes nothing.
 use mathlib.Core.Path.{_≡_, refl, sym, ap, _∙_}
 use mathlib.Core.List.{List, [], _∷_, map}
 use mathlib.Core.Option.{Option, none, some}
@@ -8,7 +8,7 @@ use native.Mathlib.Nat.{sub-zero}
 use native.Mathlib.Decide.{ℕ-discrete, decLt}
 use lib.ListN.{length, getD, take, drop, replicate, length-replicate, getD-replicate, length-set, length-take, length-map}
 use lib.ListN.{List·getD-map, List·getD-eq-default}
-use lib.Seq.{getD-take, getD-set-same, getD-set-other, take-set-le, drop-set-lt}
+use lib.Seq.{getD-take, getD-drop, getD-set-same, getD-set-other, take-set-le, drop-set-lt}
 use borrow.Author.Tests.{eq-eqb, ne-eqb}
 use borrow.Rule.Slice.PartMut.{putMid}
 use Rattle.model.specs.Costs.{costAt}
@@ -16,10 +16,10 @@ use Rattle.model.specs.Terms.{AtMost}
 use Rattle.model.proofs.Lists.{none-some}
 use Rattle.model.proofs.Indices.{getD-default}
 use Rattle.area.specs.Part.{part}
-use Rattle.area.proofs.Parts.{part-length, part-back-low, drop-back, back-length, back-at}
+use Rattle.area.proofs.Parts.{same-before, less-before, part-length, part-back-low, drop-back, back-length, back-at}
 use Rattle.map.specs.declared.Site.{Site}
-use Rattle.layout.specs.Regions.{openAt, parentsAt, endsAt, arcsAt, labelWord, parentWord, withLabel, withParent}
-use Rattle.layout.specs.Labels.{noWord, wordOr, labels, Labelled, Kept, NoLabels, NoParents, parentAt}
+use Rattle.layout.specs.Regions.{depthsAt, openAt, parentsAt, endsAt, arcsAt, labelWord, depthWord, parentWord, withLabel, withDepth, withParent}
+use Rattle.layout.specs.Labels.{noWord, wordOr, labels, depths, Labelled, Kept, NoLabels, NoParents, parentAt}
 use Rattle.layout.proofs.Held.{holds-same}
 
 pub wordOr-none : (x : ℕ) → x ≡ noWord → wordOr x ≡ none
@@ -100,20 +100,23 @@ module _ (n : ℕ) (w : List ℕ) (room : n ≤ length w) where
       record { cost = labelWord w v; is = is; below = l }
 
 pub kept-all : (n : ℕ) (w : List ℕ) → Kept n w w
-kept-all n w = record { same-length = refl; same-labels = refl; same-map = refl }
+kept-all n w = record { same-length = refl; same-front = refl; same-map = refl }
 
 pub kept-on : (n : ℕ) (w₀ w₁ w : List ℕ) → Kept n w₀ w₁ → Kept n w₁ w → Kept n w₀ w
 kept-on n w₀ w₁ w j k =
     record {
       same-length = k .same-length ∙ j .same-length;
-      same-labels = k .same-labels ∙ j .same-labels;
+      same-front = k .same-front ∙ j .same-front;
       same-map = k .same-map ∙ j .same-map;
     }
 
--- labels and map are as before, and so is what a pass over the arcs asks of the area
+-- labels, depths and map are as before, and so is what a pass over the arcs asks of the area
+pub label-words-kept : (n : ℕ) (w₀ w : List ℕ) → Kept n w₀ w → take n w ≡ take n w₀
+label-words-kept n w₀ w k = less-before n (openAt n) w₀ w (omega arith) (k .same-front)
+
 pub labels-kept : (n : ℕ) (w₀ w : List ℕ) → Kept n w₀ w → labels n w ≡ labels n w₀
 unfolding labels
-labels-kept n w₀ w k = rw (k .same-labels)
+labels-kept n w₀ w k = rw (label-words-kept n w₀ w k)
 
 pub labelled-kept : (s : Site) (w₀ w : List ℕ) → Kept (s .places) w₀ w → Labelled s w₀ → Labelled s w
 labelled-kept s w₀ w k g =
@@ -122,10 +125,21 @@ labelled-kept s w₀ w k g =
       label-below = λ v d. rw (labels-kept (s .places) w₀ w k) (g .label-below v d);
     }
 
+pub depths-kept : (n : ℕ) (w₀ w : List ℕ) → Kept n w₀ w → depths n w ≡ depths n w₀
+unfolding depths
+depths-kept n w₀ w k = rw (k .same-front)
+
+pub depth-at : (n : ℕ) (w : List ℕ) (v : ℕ) → v < n → getD (depths n w) v 0 ≡ depthWord n w v
+unfolding depths
+depth-at n w v h = getD-drop (depthsAt n) (take (openAt n) w) v 0 ∙ getD-take (openAt n) w (depthsAt n + v) 0 (omega arith)
+
+pub depth-kept : (n : ℕ) (w₀ w : List ℕ) → Kept n w₀ w → (v : ℕ) → v < n → depthWord n w v ≡ depthWord n w₀ v
+depth-kept n w₀ w k v h = same-before (openAt n) w₀ w (depthsAt n + v) (k .same-front) (omega arith)
+
 -- the words with another label of v
 module _ (n : ℕ) (w : List ℕ) (v d : ℕ) where
-  pub with-label-rest : v < n → drop (openAt n) (withLabel w v d) ≡ drop (openAt n) w
-  with-label-rest l = drop-set-lt (openAt n) w v d l
+  pub with-label-rest : v < n → drop (depthsAt n) (withLabel w v d) ≡ drop (depthsAt n) w
+  with-label-rest l = drop-set-lt (depthsAt n) w v d l
 
   pub with-label-same : v < length w → labelWord (withLabel w v d) v ≡ d
   with-label-same l = getD-set-same w v d 0 l
@@ -133,15 +147,29 @@ module _ (n : ℕ) (w : List ℕ) (v d : ℕ) where
   pub with-label-other : (u : ℕ) → (u ≡ v → ⊥) → labelWord (withLabel w v d) u ≡ labelWord w u
   with-label-other u h = getD-set-other w v u d 0 h
 
+-- the words with another depth of v
+module _ (n : ℕ) (w : List ℕ) (v k : ℕ) where
+  pub with-depth-rest : v < n → drop (openAt n) (withDepth n w v k) ≡ drop (openAt n) w
+  with-depth-rest l = drop-set-lt (openAt n) w (depthsAt n + v) k (omega arith)
+
+  pub with-depth-labels : take n (withDepth n w v k) ≡ take n w
+  with-depth-labels = take-set-le n w (depthsAt n + v) k (omega arith)
+
+  pub with-depth-same : depthsAt n + v < length w → depthWord n (withDepth n w v k) v ≡ k
+  with-depth-same l = getD-set-same w (depthsAt n + v) k 0 l
+
+  pub with-depth-other : (u : ℕ) → (u ≡ v → ⊥) → depthWord n (withDepth n w v k) u ≡ depthWord n w u
+  with-depth-other u h = getD-set-other w (depthsAt n + v) (depthsAt n + u) k 0 (λ e. h (omega arith))
+
 -- the words of the labels, from 0 to e, were lent and come back filled with the word for none
-pub labels-cleared : (n e : ℕ) (w ys : List ℕ) → e ≡ openAt n → arcsAt n ≤ length w
+pub labels-cleared : (n e : ℕ) (w ys : List ℕ) → e ≡ depthsAt n → arcsAt n ≤ length w
     → ys ≡ replicate (length (part 0 e w)) noWord → NoLabels n w (putMid 0 (e - 0) w ys)
 unfolding part
 labels-cleared n e w ys q room h =
     let same : length ys ≡ length (part 0 e w) = ap length h ∙ length-replicate (length (part 0 e w)) noWord in
     let size : length (part 0 e w) ≡ e - 0 = part-length 0 e w (omega arith) in
     record {
-      same-rest = drop-back 0 e w ys (openAt n) (omega arith) (omega arith) same (omega arith);
+      same-rest = drop-back 0 e w ys (depthsAt n) (omega arith) (omega arith) same (omega arith);
       none = λ v l.
           let at : 0 + v ≡ v = omega arith in
           rw at at (back-at 0 e w ys v (omega arith) (omega arith) same (omega arith))
@@ -154,7 +182,7 @@ module _ (n : ℕ) (w : List ℕ) (v u : ℕ) where
   with-parent-kept l =
       record {
         same-length = length-set w (parentsAt n + v) u;
-        same-labels = take-set-le n w (parentsAt n + v) u (omega arith);
+        same-front = take-set-le (openAt n) w (parentsAt n + v) u (omega arith);
         same-map = drop-set-lt (endsAt n) w (parentsAt n + v) u (omega arith);
       }
 
@@ -174,7 +202,7 @@ parents-cleared n a e w ys p q room h =
     record {
       kept = record {
         same-length = back-length a e w ys same;
-        same-labels = simp sub-zero at (part-back-low a e w ys 0 n (omega arith) (omega arith) (omega arith) (omega arith));
+        same-front = simp sub-zero at (part-back-low a e w ys 0 (openAt n) (omega arith) (omega arith) (omega arith) (omega arith));
         same-map = drop-back a e w ys (endsAt n) (omega arith) (omega arith) same (omega arith);
       };
       none = λ v l.

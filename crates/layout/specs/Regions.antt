@@ -1,4 +1,4 @@
--- The regions of the work area for n places, one after another: n labels, 10 × n words of the open list, n parents, n words to spare, n row ends,
+-- The regions of the work area for n places, one after another: n labels, n depths, 10 × n words of the open list, n parents, n row ends,
 -- n estimates, n goal marks; then a word for each arc, the arcs of a place side by side; then as many words that nobody uses.
 use mathlib.Core.List.{List}
 use Prim.Native.Nat.{ℕ, _+_, _*_, _/_, _%_, _≤_, _<_}
@@ -6,11 +6,14 @@ use lib.ListN.{length, getD, set}
 use Rattle.model.specs.Limits.{maxPlaces}
 
 -- where each region begins; the labels begin at 0
+abbrev pub depthsAt : ℕ → ℕ
+depthsAt n = n
+
 abbrev pub openAt : ℕ → ℕ
-openAt n = n
+openAt n = 2 * n
 
 abbrev pub parentsAt : ℕ → ℕ
-parentsAt n = 11 * n
+parentsAt n = 12 * n
 
 abbrev pub endsAt : ℕ → ℕ
 endsAt n = 13 * n
@@ -24,9 +27,12 @@ goalsAt n = 15 * n
 abbrev pub arcsAt : ℕ → ℕ
 arcsAt n = 16 * n
 
--- a place's label, parent, row end, estimate and goal mark, and the word of arc number k
+-- a place's label, depth, parent, row end, estimate and goal mark, and the word of arc number k
 abbrev pub labelWord : List ℕ → ℕ → ℕ
 labelWord w v = getD w v 0
+
+abbrev pub depthWord : ℕ → List ℕ → ℕ → ℕ
+depthWord n w v = getD w (depthsAt n + v) 0
 
 abbrev pub parentWord : ℕ → List ℕ → ℕ → ℕ
 parentWord n w v = getD w (parentsAt n + v) 0
@@ -43,9 +49,12 @@ goalWord n w v = getD w (goalsAt n + v) 0
 abbrev pub arcWord : ℕ → List ℕ → ℕ → ℕ
 arcWord n w k = getD w (arcsAt n + k) 0
 
--- the words with another label or parent of v
+-- the words with another label, depth or parent of v
 abbrev pub withLabel : List ℕ → ℕ → ℕ → List ℕ
 withLabel w v d = set w v d
+
+abbrev pub withDepth : ℕ → List ℕ → ℕ → ℕ → List ℕ
+withDepth n w v k = set w (depthsAt n + v) k
 
 abbrev pub withParent : ℕ → List ℕ → ℕ → ℕ → List ℕ
 withParent n w v u = set w (parentsAt n + v) u

@@ -5,8 +5,9 @@ ghost use mathlib.Core.Bool.{not};
 ghost use Prim.Native.Nat.{_≤_, _<_};
 ghost use lib.Dec.{eqb};
 ghost use lib.ListN.{length};
-ghost use Rattle.layout.specs.Regions.{openAt, parentsAt, endsAt, estimatesAt, goalsAt, arcsAt};
-ghost use Rattle.layout.specs.Regions.{labelWord, parentWord, estimateWord, goalWord, arcWord, withLabel, withParent};
+ghost use Rattle.layout.specs.Regions.{depthsAt, openAt, parentsAt, endsAt, estimatesAt, goalsAt, arcsAt};
+ghost use Rattle.layout.specs.Regions.{labelWord, depthWord, parentWord, estimateWord, goalWord, arcWord};
+ghost use Rattle.layout.specs.Regions.{withLabel, withDepth, withParent};
 ghost use Rattle.layout.specs.Regions.{partEnd, arcEnd, arcCost, wordOfArc, HasPlace, HasArc};
 ghost use Rattle.layout.specs.Map.{rowStart, rowEnd};
 ghost use Rattle.layout.specs.Labels.{NoLabels, NoParents, listedAt};
@@ -18,18 +19,25 @@ pub const NONE: u32 = 0xFFFF_FFFF;
 // What an arc's end counts in its word: above every cost.
 const END: u32 = Map::ARC_COST + 1;
 
+pub fn depths_at(places: usize) -> usize
+    requires { ⌜ places ≤ maxPlaces ⌝ }
+    ensures { λ r. ⌜ r ≡ depthsAt places ⌝ }
+{
+    places
+}
+
 pub fn open_at(places: usize) -> usize
     requires { ⌜ places ≤ maxPlaces ⌝ }
     ensures { λ r. ⌜ r ≡ openAt places ⌝ }
 {
-    places
+    2 * places
 }
 
 pub fn parents_at(places: usize) -> usize
     requires { ⌜ places ≤ maxPlaces ⌝ }
     ensures { λ r. ⌜ r ≡ parentsAt places ⌝ }
 {
-    11 * places
+    12 * places
 }
 
 pub fn ends_at(places: usize) -> usize
@@ -79,8 +87,23 @@ pub fn clear_labels(work: &mut [u32], places: usize)
     requires { ⌜ (places ≤ maxPlaces) × (arcsAt places ≤ length (now work)) ⌝ }
     ensures { λ _. ⌜ NoLabels places (now (work .entry)) (now (work .exit)) ⌝ }
 {
-    let end = open_at(places);
+    let end = depths_at(places);
     area::fill(&mut work[0..end], NONE);
+}
+
+// The depth of place v: how many arcs the search has come along to its label.
+pub fn depth(work: &[u32], places: usize, v: usize) -> u32
+    requires { ⌜ HasPlace places v (now work) ⌝ }
+    ensures { λ r. ⌜ r ≡ depthWord places (now (work .entry)) v ⌝ }
+{
+    work[depths_at(places) + v]
+}
+
+pub fn set_depth(work: &mut [u32], places: usize, v: usize, k: u32)
+    requires { ⌜ HasPlace places v (now work) ⌝ }
+    ensures { λ _. ⌜ now (work .exit) ≡ withDepth places (now (work .entry)) v k ⌝ }
+{
+    work[depths_at(places) + v] = k;
 }
 
 pub fn parent(work: &[u32], places: usize, v: usize) -> u32

@@ -17,7 +17,7 @@ use Rattle.model.specs.Paths.{Within, PathWithin, RouteWithin, Cheapest,
 use Rattle.model.specs.Costs.{costAt, table}
 use Rattle.model.specs.Query.{Key, within, firstGoal, nextLimit, Outcome, ended, over, found, nothing, query}
 use Rattle.model.specs.Rounds.{Round, Step, firstRound, limitOf, closeIf, settle, after, ask, next, trace, total}
-use Rattle.model.specs.Routes.{routeTo}
+use Rattle.model.specs.Routes.{firstRoute}
 use Rattle.model.specs.Terms.{AtMost, IsWithin, RoundKept, Closes}
 use Rattle.model.proofs.Lists.{none-some}
 use Rattle.model.proofs.LeastCosts.{start-below, end-below, entry-path, path-entry, start-within, larger-limit, table-length}
@@ -26,7 +26,8 @@ use Rattle.model.proofs.Queries.{next-limit-some, ended-next, nothing-n
 use Rattle.model.proofs.Crossing.{leaves, closed}
 use Rattle.model.proofs.Rounds.{along, asked, kept-first, kept-next, rounds-kept, low-limit}
 use Rattle.model.proofs.Total.{digits-below, total-bounded, closes-over}
-use Rattle.model.proofs.Routes.{route-within}
+use Rattle.model.proofs.Routes.{first-same}
+use Rattle.model.proofs.LeastPaths.{route-within}
 
 -- an arc in front of a walk
 pub arc-then : {p : Problem} {v e : ℕ} (a : Arc) → IsArc p a → Walk p (a .to) v e → Walk p (a .from) v (a .cost + e)
@@ -142,26 +143,15 @@ module _ (p : Problem) (ok : Valid p) where
             le-trans (first .cheapest (R .goal) (m .cost) (R .is-goal) (m .is)) (m .below)
         cheapest c r R (no n) = omega (arith, end-below w)
 
-    pub route-first-cheapest : (C : ℕ) (g : Key) → firstGoal p (table p C) ≡ some g → FirstCheapest p (g .cost) (routeTo p (table p C) g)
+    pub route-first-cheapest : (C : ℕ) (g : Key) → firstGoal p (table p C) ≡ some g → FirstCheapest p (g .cost) (firstRoute p (table p C) g)
     route-first-cheapest C g e =
+        let cheapest = found-cheapest C g e in
+        let first = first-goal-some p (table p C) g e in
+        let below : g .cost ≤ C = omega (arith, end-below (entry-path p C (g .place) (g .cost) (first .entry))) in
         record {
           cheapest = cheapest;
-          first = record {
-            member = f .first .member .route;
-            lowest = λ x y read u v z R. f .first .lowest x y read u v z (cheapest-within (g .cost) C _ cheapest below R);
-          };
+          first = first-same (λ s r. r .route) (λ s r. cheapest-within (g .cost) C s cheapest below r) (route-within p ok C g e .first);
         }
-      where
-        cheapest : Cheapest p (g .cost)
-        cheapest = found-cheapest C g e
-
-        f : FirstWithin p C (g .cost) (routeTo p (table p C) g)
-        f = route-within p ok C g e
-
-        below : g .cost ≤ C
-        below =
-            let first = first-goal-some p (table p C) g e in
-            omega (arith, end-below (entry-path p C (g .place) (g .cost) (first .entry)))
 
     module _ (c : ℕ) (k : Cheapest p c) where
       start-at-most : p .estimate (p .start) ≤ c

@@ -93,7 +93,7 @@ use Rattle.model.specs.Rounds.{
   begun,
   search,
 }
-use Rattle.model.specs.Routes.{parentBy, parent, extend, routeUpTo, routeTo}
+use Rattle.model.specs.Routes.{parentBy, parent, extend, routeUpTo, routeTo, tightBy, leastPaths, routeToFirst, firstRoute}
 use Rattle.model.specs.Sheets.{
   routeSheet,
   noRouteSheet,
@@ -109,7 +109,7 @@ use Rattle.model.specs.Sheets.{
   hostAnswer,
 }
 use Rattle.model.specs.Jobs.{putHead, putArc, putMeasured, putEstimate, putJob, shares, putChain, routeJob, noRouteJob}
-use Rattle.model.specs.Endings.{finished, endingIf, budgeted}
+use Rattle.model.specs.Endings.{finished, endingIf, budgetedBy}
 use Rattle.model.specs.Answer.{sheetOf, answerOf, overFront, refusedWith, endedWith, callIf, call}
 
 unfoldable pub compute : Unit {0}
@@ -126,8 +126,8 @@ unfolding
     lowers storeIf arrive relaxFrom relax relaxAll sameEntry sameTable relaxUpTo startTable table
     precedes keyOf keysFrom within firstGoal lengthTo crossing nextLimit notOver judge queryOn query
     firstRound limitOf closeIf settle after ask next goOn traceUpTo trace total begun search
-    parentBy parent extend routeUpTo routeTo
+    parentBy parent extend routeUpTo routeTo tightBy leastPaths routeToFirst firstRoute
     routeSheet noRouteSheet reading refusedRead impossible checked fitsRoute fitsNoRoute readRecord readFramed readSheet hostAnswer
     putHead putArc putMeasured putEstimate putJob shares putChain routeJob noRouteJob
-    finished endingIf budgeted sheetOf answerOf overFront refusedWith endedWith callIf call
+    finished endingIf budgetedBy sheetOf answerOf overFront refusedWith endedWith callIf call
 compute = tt

@@ -19,7 +19,9 @@ use Rattle.model.specs.Costs.{table}
 use Rattle.model.specs.Query.{within}
 use Rattle.model.specs.Rounds.{trace, total, neverSpent}
 use Rattle.model.specs.Sheets.{routeSheet, noRouteSheet, reading, refusedRead, readSheet}
-use Rattle.model.specs.Answer.{Result, answer, refusedWith}
+use Rattle.model.specs.Routes.{routeTo, firstRoute}
+use Rattle.model.specs.Endings.{budgetedBy}
+use Rattle.model.specs.Answer.{Result, answer, refusedWith, call}
 use Rattle.model.specs.Calls.{Call, problem, allowance, IsAccepted, result, written, Program, Defined, Keeps, Writes}
 use Rattle.model.specs.Jobs.{routeJob, noRouteJob}
 use Rattle.model.proofs.Laws.{admissible-total, never-spent-at-2, has-cheapest}
@@ -31,6 +33,7 @@ use Rattle.model.proofs.Promises.{spent-by-number, none-by-number, rout
 use Rattle.model.proofs.Promises.{spent-if-exceeded, none-if-unreachable, route-if-reachable, unspent-expansions, expansions-at-most}
 use Rattle.model.proofs.Promises.{none-sheet-is, route-sheet-is, placesOf, none-read-back, route-reads-back, first-within, first-cheapest}
 use Rattle.model.proofs.Promises.{SheetSays, sheet-says, first-sheet, none-sheet, equal-routes, equal-starts, never-equal}
+use Rattle.model.proofs.RouteRules.{SameNumbers, same-numbers}
 use Rattle.model.proofs.Realized.{accepted-route-written, accepted-no-route-written}
 
 -- Demand 1: if the map, the job or the lent memory breaks a rule, the call ends with the number that the papers give, and every lent
@@ -103,7 +106,7 @@ demand-2 c A =
           let f = route-if-reachable e lasts reachable in
           let r = first-cheapest k ok h f in (
             rw (route-answer k f),
-            record { places = placesOf k f; is-route = r .first .member; cheapest = r .cheapest; on-sheet = route-sheet-is k f },
+            record { places = placesOf k f; is-route = r .first .member .member; cheapest = r .cheapest; on-sheet = route-sheet-is k f },
           );
       no-route = λ unspent. (λ n. none-by-number k e n .unreachable, λ h. rw (none-answer k (none-if-unreachable k e unspent h)));
       no-route-sheet = λ n. none-sheet-is k (none-by-number k e n);
@@ -212,12 +215,21 @@ demand-3 = record {
     same-then-equal c d C D (inr n) =
         none-sheet (says c C) (n .first) ∙ ap noRouteSheet (n .start) ∙ sym (none-sheet (says d D) (n .second))
 
+-- Document 02, paper 2, of every call: "Counts and query order don't move." Number, cost, limit, floor, expansions and queries are those that
+-- document 01's own rule for the route gives. That the route is the first in the new sense is in demands 2 and 3.
+pub record CountsStay (c : Call) (r : Result) : Type 0 where
+  pub numbers : SameNumbers (r .answer) (call (budgetedBy routeTo) (c .input) (c .work) (c .sheet) .answer)
+
+counts-stay : (c : Call) → CountsStay c (result c)
+counts-stay c = record { numbers = same-numbers firstRoute routeTo (c .input) (c .work) (c .sheet) }
+
 -- All demands, of a program.
 pub record Demands (P : Program) : Type 0 where
   pub demand-1 : (c : Call) (r : Result) → P c r → Demand1 c r
   pub demand-2 : (c : Call) (r : Result) → P c r → IsAccepted c → Demand2 c r
   pub demand-sheets : (b : List ℕ) → Bytes b → DemandSheets P b
   pub demand-3 : Demand3 P
+  pub counts-stay : (c : Call) (r : Result) → P c r → CountsStay c r
 
 -- They hold of every program that keeps to the definition.
 pub demands : (P : Program) → Keeps P → Demands P
@@ -230,4 +242,5 @@ demands P keeps = record {
     expansions = λ c r g. demand-3 .expansions c r (keeps .only c r g);
     some-cheapest = demand-3 .some-cheapest;
   };
+  counts-stay = λ c r g. subst⁻¹ (λ x. CountsStay c x) (keeps .only c r g) (counts-stay c);
 }

@@ -11,8 +11,8 @@ use Rattle.model.specs.Paths.{GoalReachable}
 use Rattle.model.specs.Costs.{table}
 use Rattle.model.specs.Query.{Key, firstGoal, Outcome, ended, over, found, nothing, Query, query}
 use Rattle.model.specs.Rounds.{Step, ask, trace, total, Search, search}
-use Rattle.model.specs.Routes.{routeTo}
-use Rattle.model.specs.Endings.{Ending, spent, noRoute, routed, finished, endingIf, budgeted}
+use Rattle.model.specs.Routes.{firstRoute}
+use Rattle.model.specs.Endings.{Ending, spent, noRoute, routed, finished, endingIf, budgetedBy, budgeted}
 use Rattle.model.specs.Terms.{Final, Finished, CutAt}
 use Rattle.model.proofs.Queries.{nothing-next, found-goal}
 use Rattle.model.proofs.Rounds.{asked, trace-finished}
@@ -60,7 +60,7 @@ module _ (p : Problem) (a : ℕ) where
     pub unreachable : GoalReachable p → ⊥
     pub is : e ≡ noRoute (record { start = p .start; limit = last .limit; expansions = total (trace p); queries = length (trace p) })
 
-  -- there is a route: the one that the last limit's table gives
+  -- there is a route: the first one of the last limit's table
   pub record IsRouted (e : Ending) : Type 0 where
     pub last : Step
     pub lasts-to : LastsTo last
@@ -70,7 +70,7 @@ module _ (p : Problem) (a : ℕ) where
     pub is : e
         ≡ routed (record {
           cost = goal .cost;
-          places = routeTo p (table p (last .limit)) goal;
+          places = firstRoute p (table p (last .limit)) goal;
           limit = last .limit;
           expansions = total (trace p);
           queries = length (trace p);
@@ -83,7 +83,7 @@ module _ (p : Problem) (a : ℕ) where
 
   -- where nothing is cut the last query has found a goal, or there is none
   uncut-ends : Valid p → (s : Search) → LastsTo (s .last) → s .expansions ≡ total (trace p) → s .queries ≡ length (trace p)
-      → Ends (endingIf false p s)
+      → Ends (endingIf firstRoute false p s)
   unfolding endingIf finished
   uncut-ends ok s to expansions queries = go (s .last .query .outcome) refl final
     where
@@ -102,7 +102,7 @@ module _ (p : Problem) (a : ℕ) where
       gives : (o : Outcome) → s .last .query .outcome ≡ o → query p C b .outcome ≡ o
       gives o e = sym (ap (λ (q : Query). q .outcome) (query-asked p (s .last) i)) ∙ e
 
-      go : (o : Outcome) → s .last .query .outcome ≡ o → Final o → Ends (endingIf false p s)
+      go : (o : Outcome) → s .last .query .outcome ≡ o → Final o → Ends (endingIf firstRoute false p s)
       go (ended x) e f = absurd f
       go over e f = absurd f
       go found e f =
@@ -122,13 +122,13 @@ module _ (p : Problem) (a : ℕ) where
           none-ends (record { last = s .last; lasts-to = to; unreachable = unreachable; is = rw (no-goal, expansions, queries) })
 
   pub budgeted-ends : Valid p → Ends (budgeted p a)
-  unfolding budgeted endingIf
+  unfolding budgetedBy endingIf
   budgeted-ends ok = go (search p a .spent) refl
     where
       s : Search
       s = search p a
 
-      go : (t : Bool) → s .spent ≡ t → Ends (endingIf t p s)
+      go : (t : Bool) → s .spent ≡ t → Ends (endingIf firstRoute t p s)
       go true e =
           let exceeds = spent-exactly p a .0 e in
           let (expansions, is-cut) = spent-cut p a exceeds in

@@ -201,6 +201,20 @@ first-goal-some p t g e =
     low : (h d : ℕ) → IsGoal p h → costAt t h ≡ some d → NotBefore (key d h) g
     low h d i q = first-goal-least p t g (key d h) e (goal-key p t (key d h) .1 (i, q))
 
+-- and there is only one that comes first
+pub first-goal-is : (p : Problem) (t : Table) (g : Key) → IsFirstGoal p t g → firstGoal p t ≡ some g
+first-goal-is p t g f = go (firstGoal p t) refl
+  where
+    go : (o : Option Key) → firstGoal p t ≡ o → o ≡ some g
+    go none e = absurd (first-goal-none p t e (g .place) (f .is-goal) (record { cost = g .cost; is = f .entry }))
+    go (some k) e =
+        let other = first-goal-some p t k e in
+        let cost : k .cost ≡ g .cost =
+        omega (arith, other .cheapest (g .place) (g .cost) (f .is-goal) (f .entry), f .cheapest (k .place) (k .cost) (other .is-goal) (other .entry)) in
+        let place : k .place ≡ g .place =
+        omega (arith, other .lowest (g .place) (f .is-goal) (rw cost (f .entry)), f .lowest (k .place) (other .is-goal) (rw cost at (other .entry))) in
+        ap {B = Option Key} some (λ j. record { cost = cost j; place = place j })
+
 pub length-at-most : (g : Option Key) (ks : List Key) → lengthTo g ks ≤ length ks
 unfolding lengthTo
 length-at-most none ks = le-refl (length ks)

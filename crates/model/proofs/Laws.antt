@@ -46,8 +46,12 @@ pub use Rattle.model.proofs.Admissible.{admissible-total, some-within-c
 pub use Rattle.model.proofs.Admissible.{none-unreachable, found-reachable}
 -- ---- The route
 
--- Any estimates: the route is the first cheapest one within the limit, and it ends at the first goal. There is only one first cheapest route.
-pub use Rattle.model.proofs.Routes.{route-within, route-ends, first-cheapest-unique}
+-- Any estimates: the route is the first cheapest one within the limit, with the fewest places. There is only one first cheapest route.
+pub use Rattle.model.proofs.LeastPaths.{route-within}
+pub use Rattle.model.proofs.Routes.{first-cheapest-unique}
+-- For it the least paths are a problem of their own: its paths are just the paths within the limit that cost as little as D, and each costs as many
+-- arcs as it has.
+pub use Rattle.model.proofs.LeastPaths.{counted-least, least-counted}
 -- Nothing overstates: low never exceeds the cheapest cost, a goal is within every limit from the cheapest cost on, and under every limit that finds a
 -- goal the route is the problem's own first cheapest route, at the cheapest cost.
 pub use Rattle.model.proofs.Admissible.{low-at-most-cheapest, goal-within, route-first-cheapest}

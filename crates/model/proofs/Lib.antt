@@ -22,6 +22,7 @@ pub mod Rounds
 pub mod Total
 pub mod Traces
 pub mod Routes
+pub mod LeastPaths
 pub mod Admissible
 pub mod Overstating
 pub mod Estimates
@@ -30,6 +31,7 @@ pub mod Sheets
 pub mod RouteSheets
 pub mod Same
 pub mod Endings
+pub mod RouteRules
 pub mod Promises
 pub mod Laws
 pub mod PlainJobs

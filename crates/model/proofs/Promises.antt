@@ -16,7 +16,7 @@ use Rattle.model.specs.Paths.{GoalReachable, FirstCheapest, FirstWithin,
 use Rattle.model.specs.Refusals.{Row, rows, firstThatHolds, refusal, workWords, Accepted}
 use Rattle.model.specs.Costs.{table}
 use Rattle.model.specs.Rounds.{trace, total, neverSpent}
-use Rattle.model.specs.Routes.{routeTo}
+use Rattle.model.specs.Routes.{firstRoute}
 use Rattle.model.specs.Sheets.{routeSheet, noRouteSheet, reading, readSheet}
 use Rattle.model.specs.Endings.{Ending, spent, noRoute, routed, Engine, budgeted}
 use Rattle.model.specs.Answer.{answer, sheetOf, answerOf, overFront, Result, refusedWith, endedWith, callIf, call, route}
@@ -25,7 +25,8 @@ use Rattle.model.proofs.Lists.{any-false}
 use Rattle.model.proofs.Rows.{NoneHolds, first-given, none-given, rows-numbered}
 use Rattle.model.proofs.Acceptance.{accepted-valid}
 use Rattle.model.proofs.Total.{total-at-most}
-use Rattle.model.proofs.Routes.{route-within, first-cheapest-unique}
+use Rattle.model.proofs.Routes.{first-cheapest-unique}
+use Rattle.model.proofs.LeastPaths.{route-within}
 use Rattle.model.proofs.Admissible.{route-first-cheapest}
 use Rattle.model.proofs.Sheets.{Possible, route-read-back, no-route-read-back, same-route-sheet, same-no-route-sheet, different-kinds}
 use Rattle.model.proofs.RouteSheets.{route-possible}
@@ -112,7 +113,7 @@ module _ {p : Problem} {a : ℕ} {e : Ending} {r : Result} (comes : EndsAs e r) 
 
   -- the places of the route
   abbrev pub placesOf : IsRouted p a e → List ℕ
-  placesOf f = routeTo p (table p (f .last .limit)) (f .goal)
+  placesOf f = firstRoute p (table p (f .last .limit)) (f .goal)
 
   pub route-answer : (f : IsRouted p a e)
       → r .answer
@@ -234,13 +235,13 @@ sheet-says {p} {r = r} k ok (route-ends f) ample h =
 -- a problem with a first cheapest route has a goal that can be reached
 first-reachable : {p : Problem} {c : ℕ} {r : List ℕ} → FirstCheapest p c r → GoalReachable p
 first-reachable {c = c} f =
-    let route = f .first .member in
+    let route = f .first .member .member in
     record { goal = route .goal; is-goal = route .is-goal; reachable = record { cost = c; path = route .path } }
 
 -- so the first cheapest route decides the sheet,
 pub first-sheet : {p : Problem} {sheet : List ℕ} {c : ℕ} {r : List ℕ} → Valid p → SheetSays p sheet → FirstCheapest p c r → sheet ≡ routeSheet c r
 first-sheet {p} {c = c} {r = r} ok (inl s) f =
-    let same = first-cheapest-unique p ok (s .cost) c (s .places) r (s .first) f in
+    let same = first-cheapest-unique p (s .cost) c (s .places) r (s .first) f in
     s .on-sheet ∙ rw (same .0, same .1)
 first-sheet ok (inr n) f = absurd (n .unreachable (first-reachable f))
 

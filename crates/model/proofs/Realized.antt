@@ -105,7 +105,7 @@ module _ (input : List ℕ) (arcs : List Arc) (start goal : ℕ) (is : input ≡
       let k = comes plainCall call-accepted in
       let f = route-if-reachable (ends plainCall call-accepted) call-lasts some in
       let first = first-cheapest k (valid plainCall call-accepted) admissible f in
-      let same = only (result plainCall .answer .cost) (placesOf k f) (in-plain _ _ (first .first .member)) in
+      let same = only (result plainCall .answer .cost) (placesOf k f) (in-plain _ _ (first .first .member .member)) in
       call-writes (rw (route-answer k f)) (route-sheet-is k f ∙ ap₂ routeSheet (same .0) (same .1))
 
   unreachable-written : (GoalReachable (plain arcs start goal) → ⊥) → Writes Defined input 17 (noRouteSheet start)

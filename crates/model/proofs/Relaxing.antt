@@ -14,7 +14,7 @@ use lib.ListN.{length, set, replicate, length-set, length-replicate}
 use lib.Seq.{getD-set-same}
 use borrow.Author.Tests.{le-leb, leb-true, ltb-true, ltb-false, eqb-true}
 use Rattle.model.specs.Problem.{Problem, Arc, IsArc, Valid}
-use Rattle.model.specs.Paths.{Walk, stay, on, PathTo, Within, PathWithin}
+use Rattle.model.specs.Paths.{Walk, stay, on, arcCount, PathTo, Within, PathWithin}
 use Rattle.model.specs.Costs.{Table, costAt, lowers, storeIf, arrive, relaxFrom, relax, relaxAll, relaxUpTo, startTable, table}
 use Rattle.model.specs.Costs.{sameEntry, sameTable}
 use Rattle.model.specs.Terms.{AtMost}
@@ -49,7 +49,7 @@ nothing-entered (suc n) (suc v) d e = nothing-entered n v d e
 pub weaken : {o : Option ℕ} {d e : ℕ} → d ≤ e → AtMost o d → AtMost o e
 weaken h m = record { cost = m .cost; is = m .is; below = omega arith }
 
-sameEntry-true : (d e : Option ℕ) → sameEntry d e ≡ true → d ≡ e
+pub sameEntry-true : (d e : Option ℕ) → sameEntry d e ≡ true → d ≡ e
 unfolding sameEntry
 sameEntry-true none none h = refl
 sameEntry-true none (some e) h = absurd (false≢true h)
@@ -239,13 +239,8 @@ module _ (p : Problem) (C : ℕ) where
   times-length zero = arrive-length _ (p .start) 0 ∙ length-replicate (p .places) none
   times-length (suc k) = relaxAll-length (p .arcs) _ ∙ times-length k
 
--- how many arcs a walk has
-arcCount : {p : Problem} {u v d : ℕ} → Walk p u v d → ℕ
-arcCount stay = 0
-arcCount (on a i w) = suc (arcCount w)
-
 module _ (p : Problem) (ok : Valid p) (C : ℕ) where
-  arcs-cost : {u v d : ℕ} (w : Walk p u v d) → arcCount w ≤ d
+  pub arcs-cost : {u v d : ℕ} (w : Walk p u v d) → arcCount w ≤ d
   unfolding arcCount
   arcs-cost stay = le-refl 0
   arcs-cost (on a i w) = omega (arith, arcs-cost w, ok .cost-above a i)

@@ -10,16 +10,17 @@ use lib.ListN.{length, getD, length-append, List·getD-append}
 use lib.Seq.{getD-at}
 use Rattle.model.specs.Limits.{maxPlaces, maxCost}
 use Rattle.model.specs.Problem.{Problem, Valid}
-use Rattle.model.specs.Paths.{stay, on, places, PathTo, Within}
+use Rattle.model.specs.Paths.{stay, on, places, PathTo, Within, RouteWithin}
 use Rattle.model.specs.Costs.{Table, costAt, table}
 use Rattle.model.specs.Query.{Key, firstGoal}
-use Rattle.model.specs.Routes.{routeTo}
+use Rattle.model.specs.Routes.{firstRoute}
 use Rattle.model.specs.Terms.{AtMost}
 use Rattle.model.proofs.Indices.{Different}
-use Rattle.model.proofs.Keys.{within-length, first-goal-some}
+use Rattle.model.proofs.Keys.{within-length}
 use Rattle.model.proofs.LeastCosts.{table-length, entry-place}
 use Rattle.model.proofs.Crossing.{cheaper, cheaper-fewer, cheaper-shorter}
-use Rattle.model.proofs.Routes.{before-least, route-along}
+use Rattle.model.proofs.Routes.{before-least, cheapest-entry}
+use Rattle.model.proofs.LeastPaths.{route-within}
 use Rattle.model.proofs.Sheets.{Possible}
 
 -- An index into a list with v after it is one into the list, or is the end, where v stands.
@@ -125,10 +126,13 @@ module _ (p : Problem) (ok : Valid p) (C : ℕ) where
           let m = rising-entry (table p C) s i l in
           omega (arith, entry-place p C (getD r i 0) (m .cost) (m .is), ok .few-places)
 
-pub route-possible : (p : Problem) → Valid p → (C : ℕ) (g : Key) → firstGoal p (table p C) ≡ some g → Possible (g .cost) (routeTo p (table p C) g)
-unfolding routeTo
-route-possible p ok C g e =
-    let goal = first-goal-some p (table p C) g e in
-    let along = route-along p ok C (g .cost) (g .place) (g .cost) (goal .entry) (le-refl (g .cost)) in
-    let rising = path-rising p ok C (along .path) (along .within) (goal .entry) in
-    rising-possible p ok C (g .cost) (routeTo p (table p C) g) (rw (along .in-order) at rising)
+-- every cheapest route within C
+cheapest-possible : (p : Problem) → Valid p → (C : ℕ) (g : Key) → firstGoal p (table p C) ≡ some g
+    → (r : List ℕ) → RouteWithin p C (g .cost) r → Possible (g .cost) r
+cheapest-possible p ok C g e r q =
+    let rising = path-rising p ok C (q .route .path) (q .within) (cheapest-entry p ok C g e r q) in
+    rising-possible p ok C (g .cost) r (rw (q .route .in-order) at rising)
+
+pub route-possible : (p : Problem) → Valid p → (C : ℕ) (g : Key) → firstGoal p (table p C) ≡ some g
+    → Possible (g .cost) (firstRoute p (table p C) g)
+route-possible p ok C g e = cheapest-possible p ok C g e _ (route-within p ok C g e .first .member .member)

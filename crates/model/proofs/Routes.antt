@@ -1,4 +1,5 @@
--- The route that a table gives is the first cheapest one within the limit; and a first cheapest route is the only one. Assumes nothing.
+-- The route that document 01's rule gives is the first, read from the goal back, of the cheapest ones within the limit; and a first cheapest route is
+-- the only one. Assumes nothing.
 use mathlib.Core.Path.{_≡_, refl, sym, ap}
 use mathlib.Core.Logic.{_⊎_, inl, inr}
 use mathlib.Core.Bool.{Bool, true, false, cond, _&&_}
@@ -8,10 +9,11 @@ use Prim.Native.Nat.{ℕ, zero, suc, _+_, _≤_, _<_}
 use native.Mathlib.Omega.{arith}
 use native.Mathlib.Nat.{le-refl}
 use lib.Dec.{eqb}
+use lib.ListN.{length, length-append}
 use borrow.Author.Tests.{eqb-true, eq-eqb}
 use Rattle.model.specs.Lists.{filterMap}
 use Rattle.model.specs.Problem.{Problem, Arc, IsArc, Valid}
-use Rattle.model.specs.Paths.{Walk, stay, on, places, PathTo, Route, Within, RouteWithin, Cheapest, FirstCheapest, FirstWithin}
+use Rattle.model.specs.Paths.{Least, Walk, stay, on, places, PathTo, Route, Within, RouteWithin, Fewest, FirstBack, FirstCheapest}
 use Rattle.model.specs.Costs.{Table, costAt, table}
 use Rattle.model.specs.Query.{Key, firstGoal}
 use Rattle.model.specs.Routes.{parentBy, parent, extend, routeUpTo, routeTo}
@@ -20,7 +22,7 @@ use Rattle.model.proofs.Lists.{none-some, both, filterMap-member, least
 use Rattle.model.proofs.LeastCosts.{Via, start-below, end-below, entry-path, path-entry, arc-entry, entry-via}
 use Rattle.model.proofs.Keys.{IsFirstGoal, first-goal-some}
 
-cond-some : (b : Bool) (x y : ℕ) → cond b (some x) none ≡ some y → (b ≡ true) × (x ≡ y)
+pub cond-some : {A : Type 0} (b : Bool) (x y : A) → cond b (some x) none ≡ some y → (b ≡ true) × (x ≡ y)
 cond-some false x y e = none-some e
 cond-some true x y e = (refl, cc)
 
@@ -95,26 +97,19 @@ not-after-ends r s a b i j h same =
 last-not-after : (s : List ℕ) (a : ℕ) → EndsIn s a → NotAfter (a ∷ []) s
 last-not-after s a j = rw (j .1) (not-after-snoc [] (j .0) a a (le-refl a) (λ k. nothing-not-after [] (j .0) (inl refl)))
 
--- two lists that are not after one another agree from the back as far as both go
-one-is-suffix : (r s : List ℕ) → NotAfter r s → NotAfter s r → ((y : List ℕ) × (r ≡ y ++ s)) ⊎ ((y : List ℕ) × (s ≡ y ++ r))
-one-is-suffix r s h k = go (back r) (back s) [] (sym (append-nil r)) (sym (append-nil s))
+-- two lists of one length that are not after one another are the same
+same-from-back : (r s : List ℕ) → length r ≡ length s → NotAfter r s → NotAfter s r → r ≡ s
+same-from-back r s n h k = go (back r) (back s) n h k
   where
-    go : {x y : List ℕ} → Back x → Back y → (read : List ℕ) → r ≡ x ++ read → s ≡ y ++ read
-        → ((y : List ℕ) × (r ≡ y ++ s)) ⊎ ((y : List ℕ) × (s ≡ y ++ r))
-    go {y = y} empty c read e f = inr (y, cc)
-    go (snoc {l = l} b u) empty read e f = inl (l ++ (u ∷ []), cc)
-    go (snoc {l = l} b u) (snoc {l = m} c v) read e f =
-        let r-ends : r ≡ l ++ (u ∷ read) = rw append-assoc at e in
-        let s-ends : s ≡ m ++ (v ∷ read) = rw append-assoc at f in
-        let low : u ≤ v = h l m read u v r-ends s-ends in
-        let high : v ≤ u = k m l read v u s-ends r-ends in
-        let same : u ≡ v = omega arith in
-        go b c (u ∷ read) r-ends (cc)
-
-places-begin : {p : Problem} {u v d : ℕ} (w : Walk p u v d) → (l : List ℕ) × (places w ≡ u ∷ l)
-unfolding places
-places-begin stay = ([], refl)
-places-begin (on a i w) = let before = places-begin w in (before .0 ++ (a .to ∷ []), ap (λ (l : List ℕ). l ++ (a .to ∷ [])) (before .1))
+    go : {r s : List ℕ} → Back r → Back s → length r ≡ length s → NotAfter r s → NotAfter s r → r ≡ s
+    go empty empty n h k = refl
+    go empty (snoc {l = m} c v) n h k = absurd (omega (arith, length-append m (v ∷ [])))
+    go (snoc {l = l} b u) empty n h k = absurd (omega (arith, length-append l (u ∷ [])))
+    go (snoc {l = l} b u) (snoc {l = m} c v) n h k =
+        let same : u ≡ v = omega (arith, h l m [] u v refl refl, k m l [] v u refl refl) in
+        let size : length l ≡ length m = omega (arith, length-append l (u ∷ []), length-append m (v ∷ [])) in
+        let rest = go b c size (not-after-unsnoc l m u v h same) (not-after-unsnoc m l v u k (sym same)) in
+        cc
 
 places-end : {p : Problem} {u v d : ℕ} (w : Walk p u v d) → EndsIn (places w) v
 unfolding places
@@ -252,96 +247,77 @@ module _ (p : Problem) (ok : Valid p) (C : ℕ) where
       go none h before = last-not-after s v (rw (q .in-order) at (places-end (q .path)))
       go (some u) h before = rw (q .in-order) at (parent-first k u (before u) (q .path) (q .within) e h)
 
-module _ (p : Problem) (ok : Valid p) where
-  -- a walk that begins with z and comes to x later is dearer than a walk from x
-  cheaper-rest : {u v d : ℕ} (w : Walk p u v d) (z x : ℕ) (y rest : List ℕ) → places w ≡ z ∷ (y ++ (x ∷ rest))
-      → (e : ℕ) × Walk p x v e × (e < d)
-  unfolding places
-  cheaper-rest stay z x y rest e = absurd (append-ne-nil-of-right-ne-nil y (cons-ne-nil x rest) (cc))
-  cheaper-rest (on {d = b} a i w) z x y rest e =
-      go (snoc-split (places w) (a .to) (z ∷ y) x rest e) (λ rest e. cheaper-rest w z x y rest e)
-    where
-      go : ((rest ≡ []) × (x ≡ a .to)) ⊎ Passed (places w) (a .to) (z ∷ y) x rest
-          → ((rest : List ℕ) → places w ≡ z ∷ (y ++ (x ∷ rest)) → (e : ℕ) × Walk p x (a .from) e × (e < b))
-          → (e : ℕ) × Walk p x (a .to) e × (e < b + a .cost)
-      go (inl h) before = (0, rw (h .1) stay, omega (arith, ok .cost-above a i))
-      go (inr h) before =
-          let shorter : (e : ℕ) × Walk p x (a .from) e × (e < b) = before (h .earlier) (h .left) in
-          (shorter .0 + a .cost, on a i (shorter .1), omega arith)
+module _ (p : Problem) (ok : Valid p) (C : ℕ) (g : Key) (e : firstGoal p (table p C) ≡ some g) where
+  first : IsFirstGoal p (table p C) g
+  first = first-goal-some p (table p C) g e
 
-  -- a cheapest route that ends in another one is that one, for what it paid before the start came again could be saved
-  cheapest-suffix : (c : ℕ) → Cheapest p c → (y s : List ℕ) → Route p c s → Route p c (y ++ s) → y ++ s ≡ s
-  cheapest-suffix c h [] s r q = refl
-  cheapest-suffix c h (z ∷ y) s r q =
-      let begins : (l : List ℕ) × (places (r .path) ≡ p .start ∷ l) = places-begin (r .path) in
-      let whole : places (q .path) ≡ z ∷ (y ++ (p .start ∷ begins .0)) = cc (q .in-order, r .in-order, begins .1) in
-      absurd (cheaper (cheaper-rest (q .path) z (p .start) y (begins .0) whole))
-    where
-      cheaper : (e : ℕ) × PathTo p (q .goal) e × (e < c) → ⊥
-      cheaper rest =
-          let route : Route p (rest .0) (places (rest .1)) = record { goal = q .goal; is-goal = q .is-goal; path = rest .1; in-order = refl } in
-          omega (arith, h .least (rest .0) (places (rest .1), route))
+  -- the goal of a route within C has a D of at most what the route costs
+  goal-entry : (c : ℕ) (s : List ℕ) (q : RouteWithin p C c s) → AtMost (costAt (table p C) (q .route .goal)) c
+  goal-entry c s q = path-entry p ok C (q .route .goal) c (record { path = q .route .path; within = q .within })
 
-  pub route-within : (C : ℕ) (g : Key) → firstGoal p (table p C) ≡ some g → FirstWithin p C (g .cost) (routeTo p (table p C) g)
+  at-least : (c : ℕ) (s : List ℕ) → RouteWithin p C c s → g .cost ≤ c
+  at-least c s q =
+      let entry = goal-entry c s q in
+      omega (arith, first .cheapest (q .route .goal) (entry .cost) (q .route .is-goal) (entry .is), entry .below)
+
+  -- and just that where the route costs as little as the first goal's D
+  pub cheapest-entry : (s : List ℕ) (q : RouteWithin p C (g .cost) s) → costAt (table p C) (q .route .goal) ≡ some (g .cost)
+  cheapest-entry s q =
+      let entry = goal-entry (g .cost) s q in
+      let low = first .cheapest (q .route .goal) (entry .cost) (q .route .is-goal) (entry .is) in
+      let equal : entry .cost ≡ g .cost = omega (arith, entry .below) in
+      rw equal at (entry .is)
+
+  along : Along p C (g .place) (g .cost) (routeTo p (table p C) g)
   unfolding routeTo
-  route-within C g e =
-      record {
-        cheapest = record { holds = (routeTo p (table p C) g, itself); least = λ c s. at-least c (s .0) (s .1) };
-        first = record { member = itself; lowest = λ x y read u v i s. not-after (y ++ (v ∷ read)) s x y read u v i refl };
-      }
-    where
-      first : IsFirstGoal p (table p C) g
-      first = first-goal-some p (table p C) g e
+  along = route-along p ok C (g .cost) (g .place) (g .cost) (first .entry) (omega arith)
 
-      along : Along p C (g .place) (g .cost) (routeTo p (table p C) g)
-      along = route-along p ok C (g .cost) (g .place) (g .cost) (first .entry) (omega arith)
+  itself : RouteWithin p C (g .cost) (routeTo p (table p C) g)
+  itself =
+      let route : Route p (g .cost) (routeTo p (table p C) g) =
+      record { goal = g .place; is-goal = first .is-goal; path = along .path; in-order = along .in-order } in
+      record { route = route; within = along .within }
 
-      itself : RouteWithin p C (g .cost) (routeTo p (table p C) g)
-      itself =
-          let route : Route p (g .cost) (routeTo p (table p C) g) =
-          record { goal = g .place; is-goal = first .is-goal; path = along .path; in-order = along .in-order } in
-          record { route = route; within = along .within }
+  -- no route within C costs less than the first goal's D
+  pub within-cheapest : Least (λ d. (s : List ℕ) × RouteWithin p C d s) (g .cost)
+  within-cheapest = record { holds = (routeTo p (table p C) g, itself); least = λ c s. at-least c (s .0) (s .1) }
 
-      goal-entry : (c : ℕ) (s : List ℕ) (q : RouteWithin p C c s) → AtMost (costAt (table p C) (q .route .goal)) c
-      goal-entry c s q = path-entry p ok C (q .route .goal) c (record { path = q .route .path; within = q .within })
-
-      at-least : (c : ℕ) (s : List ℕ) → RouteWithin p C c s → g .cost ≤ c
-      at-least c s q =
-          let entry = goal-entry c s q in
-          omega (arith, first .cheapest (q .route .goal) (entry .cost) (q .route .is-goal) (entry .is), entry .below)
-
-      not-after : (s : List ℕ) → RouteWithin p C (g .cost) s → NotAfter (routeTo p (table p C) g) s
-      not-after s q =
-          let goal : ℕ = q .route .goal in
-          let entry : AtMost (costAt (table p C) goal) (g .cost) = goal-entry (g .cost) s q in
-          let low : g .cost ≤ entry .cost = first .cheapest goal (entry .cost) (q .route .is-goal) (entry .is) in
-          let equal : entry .cost ≡ g .cost = omega (arith, entry .below) in
-          let same-cost : costAt (table p C) goal ≡ some (g .cost) = rw equal at (entry .is) in
-          let other : Along p C goal (g .cost) s = record { path = q .route .path; within = q .within; in-order = q .route .in-order } in
-          not-after-ends (routeTo p (table p C) g) s (g .place) goal
-          (route-up-to-ends (g .cost) p (table p C) (g .place)) (rw (q .route .in-order) at (places-end (q .route .path)))
-          (first .lowest goal (q .route .is-goal) same-cost)
-          (λ same. route-first p ok C (g .cost) (g .place) (g .cost) s (first .entry) (rw same other))
-
-  pub route-ends : (C : ℕ) (g : Key) → (x : List ℕ) × (routeTo p (table p C) g ≡ x ++ (g .place ∷ []))
+  not-after : (s : List ℕ) → RouteWithin p C (g .cost) s → NotAfter (routeTo p (table p C) g) s
   unfolding routeTo
-  route-ends C g = route-up-to-ends (g .cost) p (table p C) (g .place)
+  not-after s q =
+      let goal : ℕ = q .route .goal in
+      let other : Along p C goal (g .cost) s = record { path = q .route .path; within = q .within; in-order = q .route .in-order } in
+      not-after-ends (routeTo p (table p C) g) s (g .place) goal
+      (route-up-to-ends (g .cost) p (table p C) (g .place)) (rw (q .route .in-order) at (places-end (q .route .path)))
+      (first .lowest goal (q .route .is-goal) (cheapest-entry s q))
+      (λ same. route-first p ok C (g .cost) (g .place) (g .cost) s (first .entry) (rw same other))
 
-  pub first-cheapest-unique : (c e : ℕ) (r s : List ℕ) → FirstCheapest p c r → FirstCheapest p e s → (c ≡ e) × (r ≡ s)
-  first-cheapest-unique c e r s f g = (costs, go (one-is-suffix r s not-after not-before))
-    where
-      costs : c ≡ e
-      costs = omega (arith, f .cheapest .least e (s, g .first .member), g .cheapest .least c (r, f .first .member))
+  -- document 01's rule
+  pub route-back : FirstBack (RouteWithin p C (g .cost)) (routeTo p (table p C) g)
+  route-back = record { member = itself; lowest = λ x y read u v i s. not-after (y ++ (v ∷ read)) s x y read u v i refl }
 
-      also : Route p c s
-      also = rw costs (g .first .member)
+-- the first of the same routes is the same
+pub first-same : {R S : List ℕ → Type 0} {r : List ℕ} → ((s : List ℕ) → R s → S s) → ((s : List ℕ) → S s → R s)
+    → FirstBack (Fewest R) r → FirstBack (Fewest S) r
+first-same to from f =
+    record {
+      member = record { member = to _ (f .member .member); fewest = λ s z. f .member .fewest s (from s z) };
+      lowest = λ x y read u v e z.
+          f .lowest x y read u v e (record { member = from _ (z .member); fewest = λ s i. z .fewest s (to s i) });
+    }
 
-      not-after : NotAfter r s
-      not-after x y read u v i j = f .first .lowest x y read u v i (rw j at also)
+-- there is only one first route
+first-unique : {R : List ℕ → Type 0} (r s : List ℕ) → FirstBack (Fewest R) r → FirstBack (Fewest R) s → r ≡ s
+first-unique {R} r s f g = same-from-back r s size (not-after r s f g) (not-after s r g f)
+  where
+    size : length r ≡ length s
+    size = omega (arith, f .member .fewest s (g .member .member), g .member .fewest r (f .member .member))
 
-      not-before : NotAfter s r
-      not-before x y read u v i j = g .first .lowest x y read u v i (rw (j, costs) at (f .first .member))
+    not-after : (r s : List ℕ) → FirstBack (Fewest R) r → FirstBack (Fewest R) s → NotAfter r s
+    not-after r s f g x y read u v i j = f .lowest x y read u v i (rw j at (g .member))
 
-      go : ((y : List ℕ) × (r ≡ y ++ s)) ⊎ ((y : List ℕ) × (s ≡ y ++ r)) → r ≡ s
-      go (inl h) = cc (cheapest-suffix c (f .cheapest) (h .0) s also (rw (h .1) at (f .first .member)))
-      go (inr h) = cc (cheapest-suffix c (f .cheapest) (h .0) r (f .first .member) (rw (h .1) at also))
+pub first-cheapest-unique : (p : Problem) (c e : ℕ) (r s : List ℕ) → FirstCheapest p c r → FirstCheapest p e s → (c ≡ e) × (r ≡ s)
+first-cheapest-unique p c e r s f g = (costs, first-unique r s (f .first) (rw costs (g .first)))
+  where
+    costs : c ≡ e
+    costs = omega (arith, f .cheapest .least e (s, g .first .member .member), g .cheapest .least c (r, f .first .member .member))

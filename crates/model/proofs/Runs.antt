@@ -1,5 +1,5 @@
 -- Document 01, "Runs by hand": P1 to P10 as rows of one table, and the table as one theorem, computed from the definitions; then runs with
--- several goals, and one over lanes of all classes.
+-- several goals, one over lanes of all classes, and some where the fewest places decide.
 use mathlib.Core.Path.{_≡_, refl}
 use mathlib.Core.Bool.{Bool, true, false, _&&_}
 use mathlib.Core.List.{List, [], _∷_, _++_}
@@ -185,3 +185,44 @@ overAll = putRecord 17 (put32 384 ++ put16 9 ++ put16s (0 ∷ 1 ∷ 2 ∷ 3 ∷ 
 class-run-agrees : agrees (case (classes ++ putJob 0 2124 (8 ∷ [])) (numbers 0 384 764 0 64 22 28) 170 overAll) ≡ true
 unfolding compute classes same seven over agrees case numbers overAll
 class-run-agrees = refl
+
+-- Document 02, paper 2: the sheet of a route of this cost along these places
+routeSheetOf : ℕ → List ℕ → List ℕ
+routeSheetOf cost places = putRecord 17 (put32 cost ++ put16 (length places) ++ put16s places)
+
+-- nine places at cost 8, and four; by document 01's rule the route goes along the nine, since 7 is below 9
+nineOrFour : List ℕ
+nineOrFour =
+    putHead 11 11
+    ++ putArc 0 1 1 ++ putArc 1 2 1 ++ putArc 2 3 1 ++ putArc 3 4 1 ++ putArc 4 5 1 ++ putArc 5 6 1 ++ putArc 6 7 1 ++ putArc 7 10 1
+    ++ putArc 0 8 2 ++ putArc 8 9 3 ++ putArc 9 10 3
+
+-- goal 3 with four places and goal 5 with three, both at cost 3
+nearerGoal : List ℕ
+nearerGoal = putHead 6 5 ++ putArc 0 1 1 ++ putArc 1 2 1 ++ putArc 2 3 1 ++ putArc 0 4 1 ++ putArc 4 5 2
+
+-- at cost 3 by way of 1 and 2, of 3, or of 4; by way of 5 at cost 4
+equalCounts : List ℕ
+equalCounts =
+    putHead 7 9
+    ++ putArc 0 1 1 ++ putArc 1 2 1 ++ putArc 2 6 1 ++ putArc 0 4 1 ++ putArc 4 6 2 ++ putArc 0 3 2 ++ putArc 3 6 1 ++ putArc 0 5 1 ++ putArc 5 6 3
+
+-- at cost 4 by way of 5, which overstates and is not within the limit that finds the goal; of 4 and 3; or of 1, 7 and 2
+hiddenWay : List ℕ
+hiddenWay =
+    putHead 8 9
+    ++ putArc 0 5 2 ++ putArc 5 6 2 ++ putArc 0 4 1 ++ putArc 4 3 1 ++ putArc 3 6 2 ++ putArc 0 1 1 ++ putArc 1 7 1 ++ putArc 7 2 1 ++ putArc 2 6 1
+    ++ putEstimate 5 100
+
+-- their numbers are those of tests/reference.py
+fewestRuns : List Case
+fewestRuns =
+    case (nineOrFour ++ putJob 0 2596 (10 ∷ [])) (numbers 0 8 12 0 51 12 18) 198 (routeSheetOf 8 (0 ∷ 8 ∷ 9 ∷ 10 ∷ []))
+    ∷ case (nearerGoal ++ putJob 0 1416 (3 ∷ 5 ∷ [])) (numbers 0 3 6 0 15 7 16) 106 (routeSheetOf 3 (0 ∷ 4 ∷ 5 ∷ []))
+    ∷ case (equalCounts ++ putJob 0 1652 (6 ∷ [])) (numbers 0 3 4 0 21 8 16) 130 (routeSheetOf 3 (0 ∷ 3 ∷ 6 ∷ []))
+    ∷ case (hiddenWay ++ putJob 0 1888 (6 ∷ [])) (numbers 0 4 4 0 20 8 18) 146 (routeSheetOf 4 (0 ∷ 4 ∷ 3 ∷ 6 ∷ []))
+    ∷ []
+
+fewest-runs-agree : agree fewestRuns ≡ true
+unfolding compute nineOrFour nearerGoal equalCounts hiddenWay same seven over agrees agree case numbers routeSheetOf fewestRuns
+fewest-runs-agree = refl

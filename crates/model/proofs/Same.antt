@@ -14,11 +14,13 @@ use Rattle.model.specs.Paths.{Walk, stay, on, Within, PathWithin}
 use Rattle.model.specs.Costs.{Table, costAt, table}
 use Rattle.model.specs.Query.{Key, precedes, within, firstGoal, lengthTo, crossing, nextLimit, notOver, judge, queryOn, query}
 use Rattle.model.specs.Rounds.{Round, firstRound, limitOf, after, Step, ask, next, goOn, traceUpTo, enough, trace, total, begun, Search, search}
-use Rattle.model.specs.Routes.{parent, extend, routeUpTo, routeTo}
-use Rattle.model.specs.Endings.{finished, endingIf, budgeted}
+use Rattle.model.specs.Routes.{parent, extend, routeUpTo, routeTo, leastPaths, routeToFirst, firstRoute}
+use Rattle.model.specs.Endings.{finished, endingIf, budgetedBy, budgeted}
 use Rattle.model.specs.Terms.{SameProblem}
-use Rattle.model.proofs.Lists.{filterMap-member, least-none, least-some, member-true}
+use Rattle.model.proofs.Lists.{filter-member, filterMap-member, least-none, least-some, member-true}
 use Rattle.model.proofs.LeastCosts.{table-length, table-least}
+use Rattle.model.proofs.Keys.{first-goal-some}
+use Rattle.model.proofs.LeastPaths.{least-paths-valid}
 
 -- Boolean values of which each is true where the other is are the same
 pub bool-ext : (a b : Bool) → (a ≡ true → b ≡ true) → (b ≡ true → a ≡ true) → a ≡ b
@@ -190,24 +192,61 @@ module _ (p q : Problem) (ok : Valid p) (fine : Valid q) (same : SameProblem p q
   route-up-to zero t v = refl
   route-up-to (suc k) t v = ap₂ (extend v) (same-parent t v) (fun-ext (route-up-to k t))
 
-  pub same-route : (C : ℕ) (g : Key) → routeTo p (table p C) g ≡ routeTo q (table q C) g
-  unfolding routeTo
-  same-route C g = route-up-to (g .cost) (table p C) (g .place) ∙ ap (λ (t : Table). routeTo q t g) (same-table C)
+  -- document 01's rule gives the same route of both
+  same-route-back : (C : ℕ) → routeToFirst p (table p C) (firstGoal p (table p C)) ≡ routeToFirst q (table q C) (firstGoal q (table q C))
+  unfolding routeToFirst routeTo
+  same-route-back C =
+      let goal = same-first-goal (table p C) ∙ ap (firstGoal q) (same-table C) in
+      along (firstGoal p (table p C)) ∙ ap₂ (λ (t : Table) (o : Option Key). routeToFirst q t o) (same-table C) goal
+    where
+      along : (o : Option Key) → routeToFirst p (table p C) o ≡ routeToFirst q (table p C) o
+      along none = refl
+      along (some g) = route-up-to (g .cost) (table p C) (g .place)
 
-  same-finished : (s : Search) (C : ℕ) (o : Option Key) → finished p s (table p C) o ≡ finished q s (table q C) o
+-- the least paths by one table are the same problem too
+least-paths-same : (p q : Problem) → SameProblem p q → (t : Table) (c : ℕ) → SameProblem (leastPaths p t c) (leastPaths q t c)
+unfolding leastPaths
+least-paths-same p q same t c =
+    record {
+      places = same .places;
+      estimate = λ v below. refl;
+      start = same .start;
+      growth = same .growth;
+      arc-to = λ b i. image-moves _ _ (p .arcs) (q .arcs) (same .arc-to) (λ a j. refl) b i;
+      arc-from = λ b i. image-moves _ _ (q .arcs) (p .arcs) (same .arc-from) (λ a j. refl) b i;
+      goal-to = λ g i. let h = filter-member _ (p .goals) g .0 i in filter-member _ (q .goals) g .1 (same .goal-to g (h .0), h .1);
+      goal-from = λ g i. let h = filter-member _ (q .goals) g .0 i in filter-member _ (p .goals) g .1 (same .goal-from g (h .0), h .1);
+    }
+
+module _ (p q : Problem) (ok : Valid p) (fine : Valid q) (same : SameProblem p q) where
+  pub same-route : (C : ℕ) (g : Key) → firstGoal p (table p C) ≡ some g → firstRoute p (table p C) g ≡ firstRoute q (table q C) g
+  unfolding firstRoute
+  same-route C g e =
+      let t = table p C in
+      let c = g .cost in
+      let first = first-goal-some p t g e in
+      let valid = least-paths-valid p t c ok (g .place) (first .is-goal) (first .entry) in
+      let also = least-paths-valid q t c fine (g .place) (same .goal-to (g .place) (first .is-goal)) (first .entry) in
+      same-route-back (leastPaths p t c) (leastPaths q t c) valid also (least-paths-same p q same t c) c
+      ∙ ap (λ (u : Table). firstRoute q u g) (same-table p q ok fine same C)
+
+  same-finished : (s : Search) (C : ℕ) (o : Option Key) → firstGoal p (table p C) ≡ o
+      → finished firstRoute p s (table p C) o ≡ finished firstRoute q s (table q C) o
   unfolding finished
-  same-finished s C none = rw (same .start)
-  same-finished s C (some g) = rw (same-route C g)
+  same-finished s C none e = rw (same .start)
+  same-finished s C (some g) e = rw (same-route C g e)
 
-  same-ending-if : (b : Bool) (s : Search) → endingIf b p s ≡ endingIf b q s
+  same-ending-if : (b : Bool) (s : Search) → endingIf firstRoute b p s ≡ endingIf firstRoute b q s
   unfolding endingIf
   same-ending-if true s = refl
   same-ending-if false s =
       let C = s .last .limit in
-      let goal = same-first-goal (table p C) ∙ ap (firstGoal q) (same-table C) in
-      same-finished s C (firstGoal p (table p C)) ∙ ap (finished q s (table q C)) goal
+      let goal = same-first-goal p q ok fine same (table p C) ∙ ap (firstGoal q) (same-table p q ok fine same C) in
+      same-finished s C (firstGoal p (table p C)) refl ∙ ap (finished firstRoute q s (table q C)) goal
 
   -- so the two end alike under every allowance
   pub same-ending : (a : ℕ) → budgeted p a ≡ budgeted q a
-  unfolding budgeted
-  same-ending a = same-ending-if (search p a .spent) (search p a) ∙ ap (λ (s : Search). endingIf (s .spent) q s) (same-search a)
+  unfolding budgetedBy
+  same-ending a =
+      same-ending-if (search p a .spent) (search p a)
+      ∙ ap (λ (s : Search). endingIf firstRoute (s .spent) q s) (same-search p q ok fine same a)

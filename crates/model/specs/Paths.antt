@@ -1,7 +1,8 @@
 -- What paths, their costs and the first among them are, with no search in it: source document 003, section 2, and document 01, "The search".
 use mathlib.Core.Path.{_≡_}
 use mathlib.Core.List.{List, [], _∷_, _++_}
-use Prim.Native.Nat.{ℕ, _+_, _≤_, _<_}
+use Prim.Native.Nat.{ℕ, suc, _+_, _≤_, _<_}
+use lib.ListN.{length}
 use Rattle.model.specs.Problem.{Problem, Arc, IsArc, IsGoal}
 
 -- n is the least number of which P holds
@@ -18,6 +19,11 @@ pub data Walk (p : Problem) (u : ℕ) : (v d : ℕ) → Type 0 where
 unfoldable pub places : {p : Problem} {u v d : ℕ} → Walk p u v d → List ℕ
 places {u = u} stay = u ∷ []
 places (on a i w) = places w ++ (a .to ∷ [])
+
+-- how many arcs it has
+unfoldable pub arcCount : {p : Problem} {u v d : ℕ} → Walk p u v d → ℕ
+arcCount stay = 0
+arcCount (on a i w) = suc (arcCount w)
 
 -- A path is a walk from the start.
 abbrev pub PathTo : Problem → ℕ → ℕ → Type 0
@@ -56,11 +62,21 @@ pub record RouteWithin (p : Problem) (C c : ℕ) (r : List ℕ) : Type 0 where
   pub route : Route p c r
   pub within : Within C (route .path)
 
--- The first of the routes in R. Read from the goal back, the place u at each point is the lowest-numbered one that some route in R that
--- ends in the places already read uses there; where none is read yet, that is the goal.
-pub record First (R : List ℕ → Type 0) (r : List ℕ) : Type 0 where
+-- r has the fewest places of the routes in R
+pub record Fewest (R : List ℕ → Type 0) (r : List ℕ) : Type 0 where
+  pub member : R r
+  pub fewest : (s : List ℕ) → R s → length r ≤ length s
+
+-- Document 01's own comparison of the routes in R. Read from the goal back, the place u at each point is the lowest-numbered one that some route
+-- in R that ends in the places already read uses there; where none is read yet, that is the goal.
+pub record FirstBack (R : List ℕ → Type 0) (r : List ℕ) : Type 0 where
   pub member : R r
   pub lowest : (x y read : List ℕ) (u v : ℕ) → r ≡ x ++ (u ∷ read) → R (y ++ (v ∷ read)) → u ≤ v
+
+-- The first of the routes in R. Document 02, paper 2: "the one with fewest places comes first, goals included; only then is the old comparison
+-- from the goal back used".
+abbrev pub First : (List ℕ → Type 0) → List ℕ → Type 0
+First R r = FirstBack (Fewest R) r
 
 -- the cheapest cost: the least cost of a route
 abbrev pub Cheapest : Problem → ℕ → Type 0
@@ -71,7 +87,8 @@ pub record FirstCheapest (p : Problem) (c : ℕ) (r : List ℕ) : Type 0 where
   pub cheapest : Cheapest p c
   pub first : First (Route p c) r
 
--- The first cheapest route within C: it ends at the first goal by D, then by number, and c is that goal's D.
+-- The first cheapest route within C, at the least cost c of a route within C. Of the goals with that D it ends at the one that a route with the
+-- fewest places reaches, and of such goals at the lowest-numbered.
 pub record FirstWithin (p : Problem) (C c : ℕ) (r : List ℕ) : Type 0 where
   pub cheapest : Least (λ d. (s : List ℕ) × RouteWithin p C d s) c
   pub first : First (RouteWithin p C c) r

@@ -17,6 +17,11 @@ pub record AtMost (entry : Option ℕ) (d : ℕ) : Type 0 where
   pub is : entry ≡ some cost
   pub below : cost ≤ d
 
+-- x with j is no more than y with k: by the first number, then by the second
+pub record NoMore (x j y k : ℕ) : Type 0 where
+  pub first : x ≤ y
+  pub second : x ≡ y → j ≤ k
+
 -- the place has an entry
 pub record IsWithin (t : Table) (v : ℕ) : Type 0 where
   pub cost : ℕ

@@ -3,12 +3,12 @@ use mathlib.Core.Path.{_≡_, refl, sym, _∙_}
 use mathlib.Core.Bool.{Bool, true, false, false≢true}
 use mathlib.Core.List.{List}
 use mathlib.Core.Option.{Option, none, some}
-use Prim.Native.Nat.{ℕ, _<_}
+use Prim.Native.Nat.{ℕ, _≤_}
 use native.Mathlib.Omega.{arith}
 use lib.ListN.{drop}
 use lib.Seq.{ext-getD}
 use Rattle.map.specs.declared.Site.{Site}
-use Rattle.layout.specs.Regions.{endsAt}
+use Rattle.layout.specs.Regions.{endsAt, depthWord}
 use Rattle.layout.specs.Map.{problemAt}
 use Rattle.layout.specs.Labels.{noWord, labels}
 use Rattle.layout.proofs.Held.{problem-same}
@@ -18,16 +18,17 @@ use Rattle.model.specs.Costs.{costAt, table}
 use Rattle.model.specs.Query as model
 use Rattle.model.specs.Query.{nextLimit, notOver, query}
 use Rattle.model.proofs.LeastCosts.{table-length, entry-path}
-use Rattle.query.specs.Front.{Front, FirstOpen, NoneOpen, countBelow}
+use Rattle.query.specs.Front.{Front, FewestFound, FirstOpen, NoneOpen, countBelow}
 use Rattle.scans.specs.Area.{IsNextLimit}
 use Rattle.query.specs.Open.{settledAt}
-use Rattle.query.specs.Query.{Ready, Agrees, Answered, outcomeOf}
+use Rattle.query.specs.Query.{Ready, Agrees, IsExpanded, Answered, outcomeOf}
 use Rattle.query.specs.State.{Searching, AllSettled}
 use Rattle.query.specs.declared.Outcome.the-variants.{Ended, Over, Found, None}
 use Rattle.query.specs.declared.Asked.{Asked}
-use Rattle.query.proofs.Settling.{not-both, path-after}
+use Rattle.query.proofs.Settling.{not-both, least-label, path-label}
 use Rattle.query.proofs.Front.{settled-least, labels-are-table, goal-found, goal-outcome, over-outcome, spent-cost, all-settled}
-use Rattle.query.proofs.QueryUnderway.{QueryUnderway, label-below}
+use Rattle.query.proofs.Fewest.{fewest-same, depth-entry}
+use Rattle.query.proofs.QueryUnderway.{QueryUnderway, label-below, depth-below}
 
 -- the next limit that was found, as an outcome
 module _ (s : Site) (count : ℕ) (w : List ℕ) (next : ℕ) (i : IsNextLimit s w next) where
@@ -53,6 +54,7 @@ answered-same s limit budget left w₀ w₁ w r same a =
       outcome = rw p at (a .outcome);
       count = rw p at (a .count);
       found = rw p at (a .found);
+      fewest = rw p at (a .fewest);
     }
 
 module _ {s : Site} {limit budget left : ℕ} {w₀ : List ℕ} {hand : ℕ} {w : List ℕ} {count : ℕ}
@@ -87,6 +89,11 @@ module _ {s : Site} {limit budget left : ℕ} {w₀ : List ℕ} {hand : ℕ} {w 
   ready : Ready n w
   ready = record { hand = hand; list = searching .coherent .list }
 
+  -- the places expanded are those listed
+  fewest : FewestFound p limit (IsExpanded n count w) label (depthWord n w)
+  unfolding p label
+  fewest = fewest-same (searching .listed .all) (λ u (i, l, e). rw e at (searching .listed .each i l)) (searching .fewest)
+
   -- nothing is open: the labels are the table, and the outcome is by its next limit
   pub answered-settled : NoneOpen (λ v. costAt (labels n w) v) (settledAt n hand w) → (r : Asked) → AllSettled s count w r
       → Answered s limit budget left w₀ w r
@@ -105,6 +112,7 @@ module _ {s : Site} {limit budget left : ℕ} {w₀ : List ℕ} {hand : ℕ} {w 
         outcome = λ t. outcome ∙ sym (result .1);
         count = λ t. a .count-is ∙ sym cost;
         found = λ t q. absurd (not-found (nextLimit p (table p limit)) (rw q at outcome));
+        fewest = rw (a .count-is) fewest;
       }
     where
       labels-table : labels n w ≡ table p limit
@@ -126,22 +134,23 @@ module _ {s : Site} {limit budget left : ℕ} {w₀ : List ℕ} {hand : ℕ} {w 
     unfolding p label settled
     labels-agree = record { entry-label = λ u x e l. entry u x e l (settled u) refl; label-entry = λ u x e l. own u x e l (settled u) refl }
       where
-        entry : (u x : ℕ) → costAt (table p limit) u ≡ some x → x < d → (b : Bool) → settled u ≡ b → label u ≡ some x
+        entry : (u x : ℕ) → costAt (table p limit) u ≡ some x → x ≤ d → (b : Bool) → settled u ≡ b → label u ≡ some x
         entry u x e l true o =
             let y = front .labelled u o in
             let least = settled-least p valid limit label settled front u (y .0) o (y .1) in
             let same : y .0 ≡ x = cc in
             rw same at (y .1)
-        entry u x e l false o = absurd (omega (arith, path-after p valid limit label settled front v d first u x (entry-path p limit u x e) o .costs))
+        entry u x e l false o = path-label p valid limit label settled front v d first u x (entry-path p limit u x e) o l
 
-        own : (u x : ℕ) → label u ≡ some x → x < d → (b : Bool) → settled u ≡ b → costAt (table p limit) u ≡ some x
+        own : (u x : ℕ) → label u ≡ some x → x ≤ d → (b : Bool) → settled u ≡ b → costAt (table p limit) u ≡ some x
         own u x e l true o = settled-least p valid limit label settled front u x o e
-        own u x e l false o = absurd (omega (arith, first .least u x o e))
+        own u x e l false o =
+            least-label p valid limit label settled front u x e (λ y z i q. omega (arith, first .least y z i q))
 
     -- the first open place is a goal
     pub answered-goal : IsGoal (problemAt s w₀) v
         → Answered s limit budget left w₀ w (record { spent = false; outcome = Found; count = count; place = v })
-    unfolding p label problemAt
+    unfolding p label settled problemAt
     answered-goal goal =
         let result = goal-outcome p valid limit label settled front v d budget first goal (omega (arith, counted, searching .in-budget)) in
         let cost : query p limit budget .cost ≡ count = result .1 ∙ counted in
@@ -156,16 +165,19 @@ module _ {s : Site} {limit budget left : ℕ} {w₀ : List ℕ} {hand : ℕ} {w 
           found = λ t q. record {
             cost = d;
             is-first = goal-found p valid limit label settled front v d first goal;
-            label = first .is-labelled;
             agrees = labels-agree;
+            depths = λ u x e l.
+                depth-entry p valid limit label (depthWord n w) settled front (searching .fewest) v d first goal u x e l (labels-agree .label-entry u x e l);
             label-below = label-below s under;
+            depth-below = depth-below s under;
           };
+          fewest = fewest;
         }
 
     -- it is none, and the budget is used up
     pub answered-over : (IsGoal (problemAt s w₀) v → ⊥) → count ≡ budget
         → Answered s limit budget left w₀ w (record { spent = false; outcome = Over; count = count; place = 0 })
-    unfolding p
+    unfolding p label
     answered-over no-goal b =
         let result = over-outcome p valid limit label settled front v d budget first no-goal (counted ∙ b) in
         record {
@@ -177,12 +189,13 @@ module _ {s : Site} {limit budget left : ℕ} {w₀ : List ℕ} {hand : ℕ} {w 
           outcome = λ t. sym (result .0);
           count = λ t. b ∙ sym (result .1);
           found = λ t q. absurd (let z : _≡_ {A = ℕ} 0 1 = cc in omega arith);
+          fewest = fewest;
         }
 
     -- it is none, the budget is not used up, and what is left of the allowance is
     pub answered-spent : (IsGoal (problemAt s w₀) v → ⊥) → (count ≡ budget → ⊥) → count ≡ left
         → Answered s limit budget left w₀ w (record { spent = true; outcome = Over; count = count; place = 0 })
-    unfolding p
+    unfolding p label
     answered-spent no-goal b l =
         record {
           same-map = searching .same-map;
@@ -193,4 +206,5 @@ module _ {s : Site} {limit budget left : ℕ} {w₀ : List ℕ} {hand : ℕ} {w 
           outcome = λ t. absurd (false≢true (sym t));
           count = λ t. absurd (false≢true (sym t));
           found = λ t q. absurd (false≢true (sym t));
+          fewest = fewest;
         }

@@ -12,27 +12,29 @@ use lib.ListN.{length, getD, drop}
 use Rattle.area.proofs.Parts.{same-before}
 use Rattle.open_list.specs.Entry.{noKey}
 use Rattle.map.specs.declared.Site.{Site}
-use Rattle.layout.specs.Regions.{endsAt, labelWord, arcWord}
+use Rattle.layout.specs.Regions.{openAt, endsAt, labelWord, depthWord, arcWord}
 use Rattle.layout.specs.Map.{rowStart, rowEnd, arcIn, problemAt, Holds}
 use Rattle.layout.specs.Labels.{noWord, labels}
 use Rattle.layout.proofs.Held.{problem-same, holds-same, arc-at, at-arc, estimate-word}
-use Rattle.layout.proofs.Labels.{HasLabel, label-is, is-label, at-most, labels-kept}
-use Rattle.model.specs.Problem.{Arc, IsArc, IsGoal}
+use Rattle.layout.proofs.Labels.{HasLabel, label-is, is-label, at-most, labels-kept, depth-kept}
+use Rattle.model.specs.Problem.{Problem, Arc, IsArc, IsGoal}
 use Rattle.model.specs.Costs.{costAt}
-use Rattle.model.specs.Terms.{AtMost}
+use Rattle.model.specs.Terms.{AtMost, NoMore}
 use Rattle.model.proofs.Lists.{not-true-false}
 use Rattle.model.proofs.Same.{bool-ext}
-use Rattle.query.specs.Front.{FirstOpen, Expanded, also}
+use Rattle.query.specs.Front.{FirstOpen, Expanded, Deepened, also}
 use Rattle.query.specs.Open.{keys, settledAt}
 use Rattle.query.specs.Query.{Askable}
-use Rattle.query.specs.State.{Coherent, Settles, Settled, ByRow, Fell, Relaxed, Expands, Searching}
+use Rattle.query.specs.State.{Coherent, Settles, Settled, ByRow, Fell, Stays, Expands, RowRelaxed, Searching}
 use Rattle.query.proofs.Open.{settled-is, is-settled}
 use Rattle.query.proofs.Settling.{also-same, also-other, keeps-label, next-front}
 use Rattle.query.proofs.Counting.{count-also, count-at-most}
 use Rattle.query.proofs.Regions.{listed-same, map-same}
 use Rattle.query.proofs.Listing.{lists-same, lists-also}
 use Rattle.query.proofs.Coherence.{KeySet, own-key, other-key, still-coherent}
-use Rattle.query.proofs.QueryUnderway.{label-below, Taken}
+use Rattle.query.proofs.Fewest.{next-fewest}
+use Rattle.query.proofs.Arcs.{no-more}
+use Rattle.query.proofs.QueryUnderway.{label-below, depth-below, Taken}
 
 -- a place with the same label and the same key is settled or not as before
 settled-same : (n h₀ : ℕ) (w₀ : List ℕ) (h : ℕ) (w : List ℕ) (v : ℕ) → (v < n → labelWord w v ≡ labelWord w₀ v)
@@ -48,9 +50,16 @@ settled-same n h₀ w₀ h w v label key =
 
 -- the arcs of u, labelled d, are those of its row: once they are relaxed, u is expanded
 module _ (s : Site) (limit u d h₀ : ℕ) (w₀ : List ℕ) (holds : Holds s w₀) (place : u < s .places) (small : limit < 2 ^ 30)
-    (h : ℕ) (w : List ℕ) (r : Relaxed (s .places) (ByRow (s .places) limit d u w₀) h₀ w₀ h w) where
+    (h : ℕ) (w : List ℕ) (r : RowRelaxed s limit u d h₀ w₀ h w) where
   abbrev n : ℕ
   n = s .places
+
+  abbrev p : Problem
+  p = problemAt s w₀
+
+  -- the depth that an arc of u gives
+  abbrev k : ℕ
+  k = depthWord n w₀ u + 1
 
   room : n ≤ length w
   room = omega (arith, r .coherent .regions .room)
@@ -58,56 +67,89 @@ module _ (s : Site) (limit u d h₀ : ℕ) (w₀ : List ℕ) (holds : Holds s w�
   room₀ : n ≤ length w₀
   room₀ = omega (arith, room, r .same-length)
 
-  row-reached : (a : Arc) → IsArc (problemAt s w₀) a → a .from ≡ u → d + a .cost + problemAt s w₀ .estimate (a .to) ≤ limit
-      → AtMost (costAt (labels n w) (a .to)) (d + a .cost)
+  row-by : (a : Arc) → IsArc p a → a .from ≡ u → d + a .cost + p .estimate (a .to) ≤ limit
+      → NoMore (labelWord w (a .to)) (depthWord n w (a .to)) (d + a .cost) k
   unfolding problemAt
-  row-reached a i f l =
+  row-by a i f l =
       let at = arc-at s w₀ a i in
       let to : a .to < n = holds .valid .arc-to a i in
       let estimate = estimate-word s w₀ (a .to) to in
-      let reached = r .reached (a .to) (d + a .cost) to
+      r .reached (a .to) (d + a .cost) to
       (record {
         number = at .number;
         from = omega (arith, at .begins, ap (rowStart n w₀) f);
         before = omega (arith, at .ends, ap (rowEnd n w₀) f);
         by = record { ends = at .to; sum = omega (arith, at .cost); within = omega arith };
-      }) in
-      at-most n w room (a .to) (d + a .cost) to reached (omega arith)
+      })
+
+  row-reached : (a : Arc) → IsArc p a → a .from ≡ u → d + a .cost + p .estimate (a .to) ≤ limit
+      → AtMost (costAt (labels n w) (a .to)) (d + a .cost)
+  unfolding problemAt
+  row-reached a i f l = at-most n w room (a .to) (d + a .cost) (holds .valid .arc-to a i) (row-by a i f l .first) (omega arith)
+
+  -- what By gives is an arc of u
+  row-arc : (v y : ℕ) → v < n → ByRow n limit d u w₀ v y
+      → (a : Arc) × IsArc p a × (a .from ≡ u) × (a .to ≡ v) × (d + a .cost ≡ y) × (y + p .estimate v ≤ limit)
+  unfolding arcIn
+  row-arc v y l b =
+      let estimate = estimate-word s w₀ v l in
+      let arc = at-arc s w₀ holds u (b .number) place (b .from) (b .before) in
+      (arcIn u (arcWord n w₀ (b .number)), arc, refl, b .by .ends, b .by .sum, omega (arith, b .by .within))
+
+  -- a label that stays was there
+  stays-label : {v y : ℕ} → HasLabel n w v y → labelWord w v ≡ labelWord w₀ v → costAt (labels n w₀) v ≡ some y
+  stays-label {v} {y} l same = is-label n w₀ room₀ v y (record { place = l .place; word = sym same ∙ l .word; some = l .some })
+
+  row-deep-sound : (v y : ℕ) → costAt (labels n w) v ≡ some y
+      → ((costAt (labels n w₀) v ≡ some y) × (depthWord n w v ≡ depthWord n w₀ v))
+      ⊎ ((a : Arc) × IsArc p a × (a .from ≡ u) × (a .to ≡ v) × (d + a .cost ≡ y) × (y + p .estimate v ≤ limit) × (depthWord n w v ≡ k))
+  row-deep-sound v y e = go (r .moved v (l .place))
+    where
+      l : HasLabel n w v y
+      l = label-is n w room v y e
+
+      by-arc : ByRow n limit d u w₀ v (labelWord w v) → depthWord n w v ≡ k
+          → (a : Arc) × IsArc p a × (a .from ≡ u) × (a .to ≡ v) × (d + a .cost ≡ y) × (y + p .estimate v ≤ limit) × (depthWord n w v ≡ k)
+      by-arc b deep = let (a, i, from, to, sum, low) = row-arc v y (l .place) (rw (l .word) at b) in (a, i, from, to, sum, low, deep)
+
+      go : Stays n (ByRow n limit d u w₀) k h₀ w₀ h w v ⊎ Fell n (ByRow n limit d u w₀) k w₀ h w v
+          → ((costAt (labels n w₀) v ≡ some y) × (depthWord n w v ≡ depthWord n w₀ v))
+          ⊎ ((a : Arc) × IsArc p a × (a .from ≡ u) × (a .to ≡ v) × (d + a .cost ≡ y) × (y + p .estimate v ≤ limit) × (depthWord n w v ≡ k))
+      go (inl t) = ⊎-elim (λ same. inl (stays-label l (t .label), same)) (λ g. inr (by-arc (g .by) (g .depth))) (t .depth)
+      go (inr f) = inr (by-arc (f .by) (f .depth))
 
   row-sound : (v y : ℕ) → costAt (labels n w) v ≡ some y
       → (costAt (labels n w₀) v ≡ some y)
-      ⊎ ((a : Arc) × IsArc (problemAt s w₀) a × (a .from ≡ u) × (a .to ≡ v) × (d + a .cost ≡ y) × (y + problemAt s w₀ .estimate v ≤ limit))
-  unfolding arcIn
+      ⊎ ((a : Arc) × IsArc p a × (a .from ≡ u) × (a .to ≡ v) × (d + a .cost ≡ y) × (y + p .estimate v ≤ limit))
   row-sound v y e =
-      let l = label-is n w room v y e in
-      let estimate = estimate-word s w₀ v (l .place) in
-      ⊎-elim (λ t. inl (is-label n w₀ room₀ v y (record { place = l .place; word = sym (t .label) ∙ l .word; some = l .some })))
-      (λ f.
-      let by = f .by .by in
-      let arc = at-arc s w₀ holds u (f .by .number) place (f .by .from) (f .by .before) in
-      inr (arcIn u (arcWord n w₀ (f .by .number)), arc, refl, by .ends, by .sum ∙ l .word, omega (arith, by .within, l .word)))
-      (r .moved v (l .place))
+      ⊎-elim (λ t. inl (t .0)) (λ (a, i, from, to, sum, low, deep). inr (a, i, from, to, sum, low)) (row-deep-sound v y e)
 
   row-kept : (v y : ℕ) → AtMost (costAt (labels n w₀) v) y → AtMost (costAt (labels n w) v) y
   row-kept v y a =
       let l = label-is n w₀ room₀ v (a .cost) (a .is) in
-      ⊎-elim
-      (λ t.
-      let is = is-label n w room v (a .cost) (record { place = l .place; word = t .label ∙ l .word; some = l .some }) in
-      record { cost = a .cost; is = is; below = a .below })
-      (λ f.
-      let is = is-label n w room v (labelWord w v) (record { place = l .place; word = refl; some = λ q. omega (arith, f .by .by .within) }) in
-      record { cost = labelWord w v; is = is; below = omega (arith, f .lower, l .word, a .below) })
-      (r .moved v (l .place))
+      let kept : (labelWord w v ≡ noWord → ⊥) → AtMost (costAt (labels n w) v) y = λ some.
+      let is = is-label n w room v (labelWord w v) (record { place = l .place; word = refl; some = some }) in
+      record { cost = labelWord w v; is = is; below = omega (arith, l .word, a .below, no-more r v (l .place) .first) } in
+      ⊎-elim (λ t. kept (λ q. l .some (sym (l .word) ∙ sym (t .label) ∙ q))) (λ f. kept (λ q. omega (arith, f .by .by .within))) (r .moved v (l .place))
 
-  row-expanded : Expanded (problemAt s w₀) limit u d (λ v. costAt (labels n w₀) v) (λ v. costAt (labels n w) v)
+  row-expanded : Expanded p limit u d (λ v. costAt (labels n w₀) v) (λ v. costAt (labels n w) v)
   row-expanded = record { kept = row-kept; reached = row-reached; sound = row-sound }
+
+  row-deepened : Deepened p limit u d k (λ v. costAt (labels n w₀) v) (depthWord n w₀) (λ v. costAt (labels n w) v) (depthWord n w)
+  row-deepened =
+      record {
+        kept = λ v x y e f.
+            let before = label-is n w₀ room₀ v x e in
+            rw (← before .word, ← label-is n w room v y f .word) (no-more r v (before .place));
+        reached = λ a y i f l e. rw (← label-is n w room (a .to) y e .word) (row-by a i f l);
+        sound = row-deep-sound;
+      }
 
 -- v is settled, and the words are w₁
 module _ (n hand count v : ℕ) (w : List ℕ) (coherent : Coherent n hand w) (place : v < n) (hand₁ : ℕ) (w₁ : List ℕ)
     (c : Settled n count v hand w hand₁ w₁) where
   label-same : (u : ℕ) → u < n → labelWord w₁ u ≡ labelWord w u
-  label-same u h = same-before n w w₁ u (c .kept .same-labels) h
+  label-same u h = same-before (openAt n) w w₁ u (c .kept .same-front) (omega arith)
 
   key-set : KeySet n hand w v noKey hand₁ w₁
   key-set =
@@ -167,6 +209,9 @@ module _ {s : Site} {limit budget left : ℕ} {w₀ : List ℕ} {hand : ℕ} {w 
     holds₁ : Holds s w₁
     holds₁ = holds-same s w₁ w₀ same-map (c .kept .same-length ∙ searching .same-length) (ask .holds)
 
+    depth-same : depthWord places w₁ v ≡ depthWord places w v
+    depth-same = depth-kept places w w₁ (c .kept) v (t .place)
+
     pub turn-expands : Expands s hand₁ v d w₁
     turn-expands =
         record {
@@ -174,14 +219,30 @@ module _ {s : Site} {limit budget left : ℕ} {w₀ : List ℕ} {hand : ℕ} {w 
           coherent = still-coherent (key-set places hand count v w (searching .coherent) (t .place) hand₁ w₁ c);
           place = t .place;
           label-below = label-below s (t .under) v d (f .is-labelled);
+          depth-below = rw depth-same (depth-below s (t .under) v d (f .is-labelled));
         }
 
     module _ (no-goal : IsGoal (problemAt s w₀) v → ⊥) (hand₂ : ℕ) (w₂ : List ℕ)
-        (r : Relaxed places (ByRow places limit d v w₁) hand₁ w₁ hand₂ w₂) where
+        (r : RowRelaxed s limit v d hand₁ w₁ hand₂ w₂) where
       expanded : Expanded (problemAt s w₀) limit v d (λ u. costAt (labels places w) u) (λ u. costAt (labels places w₂) u)
       expanded =
           rw (problem-same s w₁ w₀ same-map, labels-kept places w w₁ (c .kept))
           at (row-expanded s limit v d hand₁ w₁ holds₁ (t .place) (ask .limit-below) hand₂ w₂ r)
+
+      deepened : Deepened (problemAt s w₀) limit v d (depthWord places w v + 1) (λ u. costAt (labels places w) u) (depthWord places w)
+          (λ u. costAt (labels places w₂) u) (depthWord places w₂)
+      deepened =
+          let x = row-deepened s limit v d hand₁ w₁ holds₁ (t .place) (ask .limit-below) hand₂ w₂ r in
+          let y = rw (problem-same s w₁ w₀ same-map, labels-kept places w w₁ (c .kept), depth-same) at x in
+          record {
+            kept = λ u x z e f.
+                let place = label-is places w words u x e .place in
+                rw (depth-kept places w w₁ (c .kept) u place) at (y .kept u x z e f);
+            reached = y .reached;
+            sound = λ u z e.
+                let place = label-is places w₂ (omega (arith, r .coherent .regions .room)) u z e .place in
+                rw (depth-kept places w w₁ (c .kept) u place) at (y .sound u z e);
+          }
 
       settled₁ : (u : ℕ) → settledAt places hand₁ w₁ u ≡ also (settledAt places hand w) v u
       settled₁ =
@@ -189,14 +250,14 @@ module _ {s : Site} {limit budget left : ℕ} {w₀ : List ℕ} {hand : ℕ} {w 
           settled-also places hand count v w (searching .coherent) (t .place) hand₁ w₁ c word-some
 
       -- a label that has fallen is that of a place that was not settled, nor is v
-      fell-open : (u : ℕ) → Fell places (ByRow places limit d v w₁) w₁ hand₂ w₂ u → u < places → also (settledAt places hand w) v u ≡ true → ⊥
+      fell-open : (u : ℕ) → Fell places (ByRow places limit d v w₁) (depthWord places w₁ v + 1) w₁ hand₂ w₂ u → u < places → also (settledAt places hand w) v u ≡ true → ⊥
       fell-open u g h a =
           let x = labelled (ℕ-discrete u v) in
           let keeps = keeps-label (problemAt s w₀) (ask .holds .valid) limit (λ u. costAt (labels places w) u) (settledAt places hand w)
           (searching .front) v d f (λ u. costAt (labels places w₂) u) expanded u (x .0) a (x .1) in
           let before = label-is places w words u (x .0) (x .1) in
           let after = label-is places w₂ (omega (arith, r .coherent .regions .room)) u (x .0) keeps in
-          omega (arith, g .lower, same-before places w w₁ u (c .kept .same-labels) h, before .word, after .word)
+          omega (arith, g .lower, same-before (openAt places) w w₁ u (c .kept .same-front) (omega arith), before .word, after .word)
         where
           labelled : Dec (u ≡ v) → (y : ℕ) × (costAt (labels places w) u ≡ some y)
           labelled (yes q) = (d, rw q (f .is-labelled))
@@ -225,6 +286,9 @@ module _ {s : Site} {limit budget left : ℕ} {w₀ : List ℕ} {hand : ℕ} {w 
           let listed = listed-same places w₁ w₂ (r .same-rest) in
           let front = next-front (problemAt s w₀) (ask .holds .valid) limit (λ u. costAt (labels places w) u) (settledAt places hand w)
           (searching .front) v d f (λ u. costAt (labels places w₂) u) expanded no-goal in
+          let fewest = next-fewest (problemAt s w₀) (ask .holds .valid) limit (λ u. costAt (labels places w) u) (depthWord places w)
+          (settledAt places hand w) (searching .front) (searching .fewest) v d f (λ u. costAt (labels places w₂) u) (depthWord places w₂)
+          expanded deepened in
           let list = lists-also places count v (settledAt places hand w) w w₂ count-below (listed count ∙ c .listed)
           (λ i h. listed i ∙ c .listed-before i h) (searching .listed) in
           record {
@@ -232,6 +296,7 @@ module _ {s : Site} {limit budget left : ℕ} {w₀ : List ℕ} {hand : ℕ} {w 
             same-length = r .same-length ∙ c .kept .same-length ∙ searching .same-length;
             coherent = r .coherent;
             front = rw same front;
+            fewest = rw same fewest;
             counted = rw same (omega (arith, searching .counted));
             listed = lists-same (λ u e. settled₂ u ∙ e) (λ u e. sym (settled₂ u) ∙ e) list;
             in-budget = omega (arith, searching .in-budget);

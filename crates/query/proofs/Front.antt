@@ -17,7 +17,7 @@ use Rattle.model.specs.Costs.{costAt, table}
 use Rattle.model.specs.Query.{Key, within, precedes, firstGoal, lengthTo, nextLimit, over, found, notOver, judge, queryOn, query}
 use Rattle.model.proofs.Lists.{none-some, filter-all, filter-fewer, filter-shorter}
 use Rattle.model.proofs.LeastCosts.{table-length, entry-path}
-use Rattle.model.proofs.Keys.{key, NotBefore, precedes-false, not-precedes, precedes-true, key-entry, IsFirstGoal, first-goal-some, first-goal-none}
+use Rattle.model.proofs.Keys.{key, NotBefore, precedes-false, not-precedes, precedes-true, key-entry, IsFirstGoal, first-goal-some, first-goal-is}
 use Rattle.model.proofs.Queries.{queryLength}
 use Rattle.query.specs.Front.{Before, Front, FirstOpen, NoneOpen, countBelow}
 use Rattle.query.proofs.Counting.{within-counted}
@@ -118,16 +118,16 @@ module _ (p : Problem) (ok : Valid p) (C : ℕ) (label : ℕ → Option ℕ) (se
 
   -- The first open place is a goal: it is the first goal, and the places settled are those before it.
   pub goal-found : (g d : ℕ) → FirstOpen label settled g d → IsGoal p g → firstGoal p (table p C) ≡ some (record { cost = d; place = g })
-  goal-found g d f i = go (firstGoal p (table p C)) refl
-    where
-      go : (o : Option Key) → firstGoal p (table p C) ≡ o → o ≡ some (key d g)
-      go none e = absurd (first-goal-none p (table p C) e g i (record { cost = d; is = first-open-least g d f }))
-      go (some k) e =
-          let first = first-goal-some p (table p C) k e in
-          let after = open-after g d f (k .place) (k .cost) (first .entry) (front .no-goal (k .place) (first .is-goal)) in
-          let cost : k .cost ≡ d = omega (arith, first .cheapest g d i (first-open-least g d f)) in
-          let place : k .place ≡ g = omega (arith, after .places cost, first .lowest g i (rw cost (first-open-least g d f))) in
-          ap {B = Option Key} some (λ j. record { cost = cost j; place = place j })
+  goal-found g d f i =
+      let after : (h x : ℕ) → IsGoal p h → costAt (table p C) h ≡ some x → NotBefore (key x h) (key d g) =
+      λ h x j e. open-after g d f h x e (front .no-goal h j) in
+      first-goal-is p (table p C) (key d g)
+      (record {
+        is-goal = i;
+        entry = first-open-least g d f;
+        cheapest = λ h x j e. after h x j e .costs;
+        lowest = λ h j e. after h d j e .places refl;
+      })
 
   pub goal-outcome : (g d b : ℕ) → FirstOpen label settled g d → IsGoal p g → countBelow settled (p .places) ≤ b
       → (query p C b .outcome ≡ found) × (query p C b .cost ≡ countBelow settled (p .places))

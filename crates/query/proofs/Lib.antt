@@ -3,6 +3,7 @@ pub mod Open
 pub mod Settling
 pub mod Counting
 pub mod Front
+pub mod Fewest
 pub mod Regions
 pub mod Listing
 pub mod Coherence

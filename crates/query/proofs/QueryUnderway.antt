@@ -14,17 +14,18 @@ use Rattle.area.specs.Part.{part}
 use Rattle.open_list.specs.Entry.{noKey}
 use Rattle.open_list.specs.Keys.{OpenList, LeastKey, keysOf, emptyHand}
 use Rattle.map.specs.declared.Site.{Site}
-use Rattle.layout.specs.Regions.{openAt, parentsAt, endsAt, labelWord, goalWord, HasPlace}
+use Rattle.layout.specs.Regions.{openAt, parentsAt, endsAt, labelWord, depthWord, goalWord, HasPlace}
 use Rattle.layout.specs.Map.{problemAt}
 use Rattle.layout.specs.Labels.{noWord, labels}
 use Rattle.layout.proofs.Held.{problem-same, holds-same, few-places, map-room, goal-mark, mark-goal}
 use Rattle.layout.proofs.Labels.{HasLabel, label-is, is-label}
 use Rattle.model.specs.Problem.{IsGoal}
+use Rattle.model.specs.Paths.{Least, stay, arcCount, Within}
 use Rattle.model.specs.Costs.{costAt}
 use Rattle.model.proofs.Lists.{not-true-false}
 use Rattle.model.proofs.LeastCosts.{end-below}
 use Rattle.scans.specs.Area.{Listed}
-use Rattle.query.specs.Front.{FirstOpen, NoneOpen}
+use Rattle.query.specs.Front.{Through, PathFound, FirstOpen, NoneOpen}
 use Rattle.query.specs.Open.{openWords, keys, settledAt}
 use Rattle.query.specs.Query.{Askable}
 use Rattle.query.specs.State.{HasRegions, Clears, Blank, Arrives, Arrived, Searching}
@@ -32,6 +33,7 @@ use Rattle.query.proofs.Open.{HasSettled, settled-is, is-settled}
 use Rattle.query.proofs.Settling.{not-both}
 use Rattle.query.proofs.Counting.{count-none}
 use Rattle.query.proofs.Front.{begin-front}
+use Rattle.query.proofs.Fewest.{depth-at-most}
 use Rattle.query.proofs.Regions.{open-part, begun-map}
 use Rattle.query.proofs.Listing.{lists-same}
 use Rattle.query.proofs.Coherence.{coherent-length, KeySet, own-key, still-coherent}
@@ -83,7 +85,7 @@ module _ (s : Site) where
 
   -- the start is labelled 0 and open, and no other place has a label
   module _ {limit : ℕ} {w₀ : List ℕ} (ask : Askable s limit w₀) {w₁ : List ℕ} (b : Blank n w₀ w₁) (h₁ : ℕ) (empty : h₁ ≡ emptyHand)
-      {hand : ℕ} {w : List ℕ} (a : Arrived n (s .start) 0 h₁ w₁ hand w) where
+      {hand : ℕ} {w : List ℕ} (a : Arrived n (s .start) 0 0 h₁ w₁ hand w) where
     no-key : (v : ℕ) → v < n → getD (keys n h₁ w₁) v 0 ≡ noKey
     unfolding keys
     no-key v h = rw (empty, b .none-open .keys-none) (getD-replicate n v noKey 0 h)
@@ -127,6 +129,16 @@ module _ (s : Site) where
         go l (yes q) = (q, omega (arith, l .word, a .label, ap (labelWord w) q))
         go l (no q) = absurd (l .some (omega (arith, l .word, other-label v (l .place) q)))
 
+    -- the start, with no arcs, is all that is found
+    fewest-start : Askable s limit w → (v d : ℕ) → v ≡ s .start → d ≡ 0
+        → Least (PathFound (problemAt s w) limit (λ u. settledAt n hand w u ≡ true) v d) (depthWord n w v)
+    unfolding problemAt Within Through arcCount
+    fewest-start again v d p q =
+        rw (p, q, a .depth) (record {
+          holds = record { path = stay; within = again .start-within; through = tt; arcs = refl };
+          least = λ k f. omega arith;
+        })
+
     pub searching-starts : (budget left : ℕ) → Searching s limit budget left w hand w 0
     unfolding problemAt
     searching-starts budget left =
@@ -140,6 +152,7 @@ module _ (s : Site) where
           same-length = refl;
           coherent = still-coherent key-set;
           front = rw none (begin-front (problemAt s w) limit labelled (again .holds .valid) (again .start-within) label only-start);
+          fewest = λ v d e. let o = only-start v d e in fewest-start again v d (o .0) (o .1);
           counted = rw none (count-none n);
           listed = record { few = omega arith; each = λ i l. absurd (omega arith); all = λ v t. absurd (not-both t (none-settled v)) };
           in-budget = omega arith;
@@ -155,6 +168,13 @@ module _ (s : Site) where
 
     pub label-below : (v d : ℕ) → costAt (labels n w) v ≡ some d → d < 2 ^ 30
     label-below v d e = omega (arith, end-below (searching .front .backed v d e), under .ask .limit-below)
+
+    -- a depth is at most the label, since each arc costs at least 1
+    pub depth-below : (v d : ℕ) → costAt (labels n w) v ≡ some d → depthWord n w v < 2 ^ 30
+    depth-below v d e =
+        let few = depth-at-most (problemAt s w₀) (under .ask .holds .valid) limit (λ u. costAt (labels n w) u) (depthWord n w) (settledAt n hand w)
+        (searching .front) (searching .fewest) v d e in
+        omega (arith, label-below v d e)
 
     -- what the pass over the listed places' arcs asks, where no place is open
     pub search-listed : NoneOpen (λ v. costAt (labels n w) v) (settledAt n hand w) → Listed s count w

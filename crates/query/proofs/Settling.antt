@@ -45,6 +45,10 @@ pub also-same : (settled : ℕ → Bool) (v u : ℕ) → u ≡ v → also settle
 unfolding also
 also-same settled v u e = rw (eq-eqb u v e) (or-true (settled u))
 
+pub also-still : (settled : ℕ → Bool) (v u : ℕ) → settled u ≡ true → also settled v u ≡ true
+unfolding also
+also-still settled v u s = rw s
+
 pub also-other : (settled : ℕ → Bool) (v u : ℕ) → (u ≡ v → ⊥) → also settled v u ≡ settled u
 unfolding also
 also-other settled v u n = rw (ne-eqb u v n) (or-false (settled u))
@@ -137,6 +141,20 @@ module _ (p : Problem) (ok : Valid p) (C : ℕ) (label : ℕ → Option ℕ) (se
           let low = f .least (o .place) (o .cost) (o .is-open) (o .is-labelled) in
           record { costs = omega arith; places = λ q. at-d o low q (o .last) }
 
+  -- a path to a place that is not settled, and that costs no more than the first open one, costs what the place is labelled
+  pub path-label : (v d : ℕ) → FirstOpen label settled v d → (w x : ℕ) → PathWithin p C w x → settled w ≡ false → x ≤ d → label w ≡ some x
+  path-label v d f w x path s h = go (path-leads path)
+    where
+      at-x : (o : Passed label settled w x) → d ≤ o .cost → (o .place ≡ w) ⊎ (o .cost < x) → label w ≡ some x
+      at-x o low (inl r) =
+          let same : o .cost ≡ x = omega (arith, o .below) in
+          rw (r, same) at (o .is-labelled)
+      at-x o low (inr r) = absurd (omega arith)
+
+      go : Leads w x → label w ≡ some x
+      go (inl t) = absurd (not-both (t .0) s)
+      go (inr o) = at-x o (f .least (o .place) (o .cost) (o .is-open) (o .is-labelled)) (o .last)
+
   module _ (v d : ℕ) (f : FirstOpen label settled v d) (after : ℕ → Option ℕ) (x : Expanded p C v d label after) where
     -- what is settled with v is labelled d at most
     also-labelled : (u : ℕ) → also settled v u ≡ true → AtMost (label u) d
@@ -174,11 +192,14 @@ module _ (p : Problem) (ok : Valid p) (C : ℕ) (label : ℕ → Option ℕ) (se
             let same : l .cost ≡ y = cc in
             absurd (omega (arith, m .below))
 
-    old-label : (u y : ℕ) → also settled v u ≡ true → after u ≡ some y → AtMost (label u) d × (label u ≡ some y)
+    pub old-label : (u y : ℕ) → also settled v u ≡ true → after u ≡ some y → AtMost (label u) d × (label u ≡ some y)
     old-label u y s e =
         let l = also-labelled u s in
         let keeps = keeps-label u (l .cost) s (l .is) in
         (l, cc)
+
+    pub still-labelled : (u : ℕ) → also settled v u ≡ true → (y : ℕ) × (after u ≡ some y)
+    still-labelled u s = let l = also-labelled u s in (l .cost, keeps-label u (l .cost) s (l .is))
 
     expand-relaxed : (a : Arc) (y : ℕ) → IsArc p a → also settled v (a .from) ≡ true → after (a .from) ≡ some y
         → y + a .cost + p .estimate (a .to) ≤ C → AtMost (after (a .to)) (y + a .cost)
@@ -220,7 +241,7 @@ module _ (p : Problem) (ok : Valid p) (C : ℕ) (label : ℕ → Option ℕ) (se
         record {
           begins = x .kept (p .start) 0 (front .begins);
           backed = λ w y e. path w y (old-or-new w y e);
-          labelled = λ u s. let l = also-labelled u s in (l .cost, keeps-label u (l .cost) s (l .is));
+          labelled = still-labelled;
           relaxed = expand-relaxed;
           ordered = expand-ordered;
           no-goal = λ g i. also-other settled v g (λ q. no-goal (rw q at i)) ∙ front .no-goal g i;

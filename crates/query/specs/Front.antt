@@ -1,4 +1,4 @@
--- A uniform-cost search under way within limit C: labels of places, and which of them are settled (expanded).
+-- A uniform-cost search under way within limit C: labels and depths of places, and which of them are settled (expanded).
 use mathlib.Core.Path.{_≡_}
 use mathlib.Core.Logic.{_⊎_}
 use mathlib.Core.Bool.{Bool, true, false, cond, _||_}
@@ -6,8 +6,8 @@ use mathlib.Core.Option.{Option, some}
 use Prim.Native.Nat.{ℕ, zero, suc, _+_, _≤_, _<_}
 use lib.Dec.{eqb}
 use Rattle.model.specs.Problem.{Problem, Arc, IsArc, IsGoal}
-use Rattle.model.specs.Paths.{PathWithin}
-use Rattle.model.specs.Terms.{AtMost}
+use Rattle.model.specs.Paths.{Least, Walk, stay, on, arcCount, PathTo, Within, PathWithin}
+use Rattle.model.specs.Terms.{AtMost, NoMore}
 
 -- u at cost x comes before w at cost y: by cost, then by number
 abbrev pub Before : (x u y w : ℕ) → Type 0
@@ -27,6 +27,23 @@ pub record Front (p : Problem) (C : ℕ) (label : ℕ → Option ℕ) (settled :
   -- no goal is settled
   pub no-goal : (g : ℕ) → IsGoal p g → settled g ≡ false
 
+-- every place of the walk before its last is one of E
+unfoldable pub Through : {p : Problem} (E : ℕ → Type 0) {u v d : ℕ} → Walk p u v d → Type 0
+Through E stay = Unit {0}
+Through E (on a i w) = Through E w × E (a .from)
+
+-- a path found to v, of cost d and with k arcs: it is within C, and its places before the last have all been expanded
+pub record PathFound (p : Problem) (C : ℕ) (Expanded : ℕ → Type 0) (v d k : ℕ) : Type 0 where
+  pub path : PathTo p v d
+  pub within : Within C path
+  pub through : Through Expanded path
+  pub arcs : arcCount path ≡ k
+
+-- Document 02, paper 2: "Each place's search record therefore carries the number of arcs so far, and after every expansion in a query it is the
+-- fewest over the paths found there at the record's cost." The record's cost is a label, its arcs so far a depth.
+abbrev pub FewestFound : Problem → (C : ℕ) (Expanded : ℕ → Type 0) (label : ℕ → Option ℕ) (depth : ℕ → ℕ) → Type 0
+FewestFound p C Expanded label depth = (v d : ℕ) → label v ≡ some d → Least (PathFound p C Expanded v d) (depth v)
+
 -- v, labelled d, is the first of the open places: labelled and not settled
 pub record FirstOpen (label : ℕ → Option ℕ) (settled : ℕ → Bool) (v d : ℕ) : Type 0 where
   pub is-labelled : label v ≡ some d
@@ -44,6 +61,16 @@ pub record Expanded (p : Problem) (C v d : ℕ) (before after : ℕ → Option �
   pub reached : (a : Arc) → IsArc p a → a .from ≡ v → d + a .cost + p .estimate (a .to) ≤ C → AtMost (after (a .to)) (d + a .cost)
   pub sound : (w y : ℕ) → after w ≡ some y
       → (before w ≡ some y) ⊎ ((a : Arc) × IsArc p a × (a .from ≡ v) × (a .to ≡ w) × (d + a .cost ≡ y) × (y + p .estimate w ≤ C))
+
+-- and so have the depths, where an arc of v makes k arcs from the start: a place's label with its depth is no more than it was and no more than
+-- what an arc of v gives, and is one of these
+pub record Deepened (p : Problem) (C v d k : ℕ) (before : ℕ → Option ℕ) (depth₀ : ℕ → ℕ) (after : ℕ → Option ℕ) (depth : ℕ → ℕ) : Type 0 where
+  pub kept : (w x y : ℕ) → before w ≡ some x → after w ≡ some y → NoMore y (depth w) x (depth₀ w)
+  pub reached : (a : Arc) (y : ℕ) → IsArc p a → a .from ≡ v → d + a .cost + p .estimate (a .to) ≤ C → after (a .to) ≡ some y
+      → NoMore y (depth (a .to)) (d + a .cost) k
+  pub sound : (w y : ℕ) → after w ≡ some y
+      → ((before w ≡ some y) × (depth w ≡ depth₀ w))
+      ⊎ ((a : Arc) × IsArc p a × (a .from ≡ v) × (a .to ≡ w) × (d + a .cost ≡ y) × (y + p .estimate w ≤ C) × (depth w ≡ k))
 
 unfoldable pub also : (ℕ → Bool) → ℕ → ℕ → Bool
 also settled v u = settled u || eqb u v

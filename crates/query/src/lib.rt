@@ -1,9 +1,11 @@
 // One query: a uniform-cost search within a limit, which counts the places that it expands.
 use map::Site;
 ghost use mathlib.Core.Path.{_≡_};
+ghost use Rattle.layout.specs.Regions.{HasPlace};
 ghost use Rattle.scans.specs.Area.{Listed};
 ghost use Rattle.query.specs.Query.{Preparable, Prepared, Askable, Answered};
-ghost use Rattle.query.specs.State.{Clears, Blank, Arrives, Arrived, Settles, Settled, Relaxes, ByArc, ByRow, Relaxed, Expands, AllSettled};
+ghost use Rattle.query.specs.State.{Clears, Blank, Arrives, Arrived, lessDeep, Settles, Settled};
+ghost use Rattle.query.specs.State.{Relaxes, ByArc, Relaxed, Expands, RowRelaxed, AllSettled};
 
 // How a query ends: by a number above the limit, by its budget, at a goal, or with nothing left to reach.
 pub enum Outcome {
@@ -45,12 +47,13 @@ fn clear(work: &mut [u32], n: usize)
     open_list::reset(&mut work[start..end], n);
 }
 
-// Place v is reached at cost d, which is below its label.
-fn arrive(work: &mut [u32], n: usize, hand: u64, v: usize, d: u32) -> u64
+// Place v is reached at cost d, which is below its label, along k arcs.
+fn arrive(work: &mut [u32], n: usize, hand: u64, v: usize, d: u32, k: u32) -> u64
     requires { ⌜ Arrives n hand v d (now work) ⌝ }
-    ensures { λ r. ⌜ Arrived n v d hand (now (work .entry)) r (now (work .exit)) ⌝ }
+    ensures { λ r. ⌜ Arrived n v d k hand (now (work .entry)) r (now (work .exit)) ⌝ }
 {
     layout::set_label(work, v, d);
+    layout::set_depth(work, n, v, k);
     let start = layout::open_at(n);
     let end = layout::parents_at(n);
     open_list::lower(&mut work[start..end], n, hand, v, d)
@@ -68,35 +71,51 @@ fn settle(work: &mut [u32], n: usize, hand: u64, count: u32, v: usize) -> u64
     open_list::close(&mut work[start..end], n, hand, v)
 }
 
-// The arc with the word x, from a place that is expanded at cost d.
-fn relax(work: &mut [u32], n: usize, hand: u64, limit: u32, d: u32, x: u32) -> u64
+// Place v is reached again at the cost of its label, along k arcs. Nothing moves in the open list.
+fn arrive_again(work: &mut [u32], n: usize, v: usize, k: u32)
+    requires { ⌜ HasPlace n v (now work) ⌝ }
+    ensures { λ _. ⌜ now (work .exit) ≡ lessDeep n v k (now (work .entry)) ⌝ }
+{
+    if k < layout::depth(work, n, v) {
+        layout::set_depth(work, n, v, k);
+    }
+}
+
+// The arc with the word x, from a place that is expanded at cost d; it makes k arcs from the start.
+fn relax(work: &mut [u32], n: usize, hand: u64, limit: u32, d: u32, k: u32, x: u32) -> u64
     requires { ⌜ Relaxes n hand d x (now work) ⌝ }
-    ensures { λ r. ⌜ Relaxed n (ByArc n limit d x (now (work .entry))) hand (now (work .entry)) r (now (work .exit)) ⌝ }
+    ensures { λ r. ⌜ Relaxed n (ByArc n limit d x (now (work .entry))) k hand (now (work .entry)) r (now (work .exit)) ⌝ }
 {
     let v = layout::arc_end(x);
     let e = d + layout::arc_cost(x);
-    if layout::label(work, v) <= e {
+    let label = layout::label(work, v);
+    if label < e {
         return hand;
     }
     if limit < e + layout::estimate(work, n, v) {
         return hand;
     }
-    arrive(work, n, hand, v, e)
+    if label == e {
+        arrive_again(work, n, v, k);
+        return hand;
+    }
+    arrive(work, n, hand, v, e, k)
 }
 
 // Relaxes the arcs of u, which is expanded at cost d.
 fn expand(work: &mut [u32], site: Site, hand: u64, limit: u32, u: usize, d: u32) -> u64
     requires { ⌜ Expands site hand u d (now work) ⌝ }
-    ensures { λ r. ⌜ Relaxed (site .places) (ByRow (site .places) limit d u (now (work .entry))) hand (now (work .entry)) r (now (work .exit)) ⌝ }
+    ensures { λ r. ⌜ RowRelaxed site limit u d hand (now (work .entry)) r (now (work .exit)) ⌝ }
 {
     let n = site.places;
+    let k = layout::depth(work, n, u) + 1;
     let mut h = hand;
-    let mut k = layout::row_start(work, n, u);
+    let mut j = layout::row_start(work, n, u);
     let end = layout::row_end(work, n, u);
-    while k < end {
-        let x = layout::arc(work, n, k);
-        h = relax(work, n, h, limit, d, x);
-        k += 1;
+    while j < end {
+        let x = layout::arc(work, n, j);
+        h = relax(work, n, h, limit, d, k, x);
+        j += 1;
     }
     h
 }
@@ -135,7 +154,7 @@ pub fn query(work: &mut [u32], site: Site, limit: u32, budget: u32, left: u32) -
     let open_start = layout::open_at(n);
     let open_end = layout::parents_at(n);
     clear(work, n);
-    let mut hand = arrive(work, n, open_list::empty(), site.start as usize, 0);
+    let mut hand = arrive(work, n, open_list::empty(), site.start as usize, 0, 0);
     let mut count: u32 = 0;
     loop {
         let first = open_list::least(&work[open_start..open_end], n, hand);

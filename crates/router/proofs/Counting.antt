@@ -8,7 +8,7 @@ use lib.ListN.{length}
 use Rattle.model.specs.Lists.{below}
 use Rattle.model.specs.Problem.{Problem, Valid}
 use Rattle.model.specs.Costs.{table}
-use Rattle.model.specs.Routes.{routeTo}
+use Rattle.model.specs.Routes.{firstRoute}
 use Rattle.model.specs.Endings.{Reached, Ending, spent, noRoute, routed, budgeted}
 use Rattle.model.proofs.Lists.{below-member, different-among, below-length}
 use Rattle.model.proofs.Indices.{Different, different-repeats}
@@ -49,7 +49,7 @@ module _ (p : Problem) (ok : Valid p) (a : ℕ) where
       go (route-ends i) =
           let is : routed _ ≡ routed x = sym (i .is) ∙ e in
           let cost : i .goal .cost ≡ x .cost = ap costOf is in
-          let places : routeTo p (table p (i .last .limit)) (i .goal) ≡ x .places = ap placesOf is in
+          let places : firstRoute p (table p (i .last .limit)) (i .goal) ≡ x .places = ap placesOf is in
           rw (places, cost) at (route-possible p ok (i .last .limit) (i .goal) (i .is-first))
 
 -- the parents lead along at most n places where these differ

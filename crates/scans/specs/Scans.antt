@@ -1,20 +1,21 @@
 -- What the passes over the arcs of labelled places keep while under way.
 use mathlib.Core.Path.{_≡_}
-use mathlib.Core.Bool.{cond, _&&_}
+use mathlib.Core.Bool.{Bool, cond, not, _&&_}
 use mathlib.Core.List.{List, [], _++_}
 use mathlib.Core.Option.{Option, some}
 use Prim.Native.Nat.{ℕ, zero, suc, _+_, _≤_, _<_}
 use lib.Dec.{eqb, ltb}
 use Rattle.model.specs.Costs.{Table, costAt}
 use Rattle.model.specs.Lists.{filterMap, least, lesser}
-use Rattle.model.specs.Problem.{Arc}
+use Rattle.model.specs.Problem.{Arc, IsGoal}
 use Rattle.model.specs.Query.{crossing}
-use Rattle.model.specs.Routes.{parentBy}
+use Rattle.model.specs.Terms.{NoMore}
 use Rattle.map.specs.declared.Site.{Site}
-use Rattle.layout.specs.Regions.{labelWord, parentWord, withParent, arcEnd, arcCost, HasPlace}
+use Rattle.layout.specs.Regions.{labelWord, depthWord, parentWord, goalWord, withParent, arcEnd, arcCost, HasPlace}
 use Rattle.layout.specs.Map.{row, rowsBelow, arcIn, problemAt}
 use Rattle.layout.specs.Rows.{InRow, passed}
-use Rattle.layout.specs.Labels.{noWord, wordOr, labels, Labelled, Kept, listedAt}
+use Rattle.layout.specs.Labels.{noWord, wordOr, labels, depths, Labelled, Kept, listedAt}
+use Rattle.scans.specs.Area.{Recorded, parentFrom, LowestGoal}
 
 -- the rows of the first k places of the list
 unfoldable pub rowsListed : ℕ → List ℕ → ℕ → List Arc
@@ -53,39 +54,58 @@ pub record LimitUpTo (s : Site) (count i least : ℕ) (w : List ℕ) : Type 0 wh
   pub to-end : i ≤ count
   pub so-far : LimitOver s w (rowsListed (s .places) w i) least
 
--- the words after the arc with the word x, from u with the label d
-unfoldable pub parentStored : ℕ → ℕ → ℕ → ℕ → List ℕ → List ℕ
-parentStored n u d x w =
-    cond (eqb (labelWord w (arcEnd x)) (d + arcCost x) && eqb (parentWord n w (arcEnd x)) noWord) (withParent n w (arcEnd x) u) w
+-- the words after the arc with the word x, from u with the label d, which makes k arcs from the start
+unfoldable pub parentStored : (n u d k x : ℕ) → List ℕ → List ℕ
+parentStored n u d k x w =
+    let v = arcEnd x in
+    cond (eqb (labelWord w v) (d + arcCost x) && (eqb (depthWord n w v) k && eqb (parentWord n w v) noWord)) (withParent n w v u) w
 
--- the parent that an arc gives place v, with the labels t
-unfoldable pub parentFrom : Table → ℕ → Arc → Option ℕ
-parentFrom t v a = parentBy a v (costAt t (a .from)) (costAt t v)
-
--- the parents that the arcs give: of each place the lowest-numbered, and none above u
-pub record ParentsOver (n : ℕ) (t : Table) (arcs : List Arc) (u : ℕ) (w : List ℕ) : Type 0 where
-  pub lowest : (v : ℕ) → v < n → wordOr (parentWord n w v) ≡ least (filterMap (parentFrom t v) arcs)
+-- the parents that the arcs give, with the labels t and the depths ks: of each place the lowest-numbered, and none above u
+pub record ParentsOver (n : ℕ) (t : Table) (ks : List ℕ) (arcs : List Arc) (u : ℕ) (w : List ℕ) : Type 0 where
+  pub lowest : (v : ℕ) → v < n → wordOr (parentWord n w v) ≡ least (filterMap (parentFrom t ks v) arcs)
   pub none-above : (v x : ℕ) → v < n → wordOr (parentWord n w v) ≡ some x → x ≤ u
 
 -- the rows of the places below u are passed, and the row of u comes next
 pub record ParentsRow (s : Site) (u : ℕ) (w : List ℕ) : Type 0 where
-  pub labelled : Labelled s w
+  pub recorded : Recorded s w
   pub row : HasPlace (s .places) u w
-  pub so-far : ParentsOver (s .places) (labels (s .places) w) (rowsBelow (s .places) w u) u w
+  pub so-far : ParentsOver (s .places) (labels (s .places) w) (depths (s .places) w) (rowsBelow (s .places) w u) u w
 
 -- the arcs of the rows below u are passed
 pub record ParentsBelow (n u : ℕ) (w₀ w : List ℕ) : Type 0 where
   pub kept : Kept n w₀ w
-  pub so-far : ParentsOver n (labels n w₀) (rowsBelow n w₀ u) u w
+  pub so-far : ParentsOver n (labels n w₀) (depths n w₀) (rowsBelow n w₀ u) u w
 
 -- under way in the row of u
 pub record Parenting (n u k end : ℕ) (w₀ w : List ℕ) : Type 0 where
   pub inside : InRow n u k end w₀
   pub kept : Kept n w₀ w
-  pub so-far : ParentsOver n (labels n w₀) (passed n w₀ (rowsBelow n w₀ u) u k) u w
+  pub so-far : ParentsOver n (labels n w₀) (depths n w₀) (passed n w₀ (rowsBelow n w₀ u) u k) u w
 
 -- under way before the row of u
 pub record ParentsUpTo (s : Site) (u : ℕ) (w₀ w : List ℕ) : Type 0 where
-  pub labelled : Labelled s w₀
+  pub recorded : Recorded s w₀
   pub to-end : u ≤ s .places
   pub so-far : ParentsBelow (s .places) u w₀ w
+
+-- what a step of the choice among goals asks: `goal` and v are places
+pub record Choosable (s : Site) (goal v : ℕ) (w : List ℕ) : Type 0 where
+  pub goal-place : HasPlace (s .places) goal w
+  pub place : HasPlace (s .places) v w
+
+-- v is a goal with the label of `goal` and a smaller depth
+abbrev pub isNearer : (n goal v : ℕ) → List ℕ → Bool
+isNearer n goal v w =
+    not (eqb (goalWord n w v) 0) && (eqb (labelWord w v) (labelWord w goal) && ltb (depthWord n w v) (depthWord n w goal))
+
+unfoldable pub nearerOf : (n goal v : ℕ) → List ℕ → ℕ
+nearerOf n goal v w = cond (isNearer n goal v w) v goal
+
+-- under way among the goals below v
+pub record Choosing (s : Site) (first : ℕ) (w : List ℕ) (goal v : ℕ) : Type 0 where
+  pub asks : LowestGoal s first w
+  pub is-goal : IsGoal (problemAt s w) goal
+  pub label : labelWord w goal ≡ labelWord w first
+  pub below : goal < v
+  pub nearest : (g : ℕ) → g < v → IsGoal (problemAt s w) g → labelWord w g ≡ labelWord w first
+      → NoMore (depthWord (s .places) w goal) goal (depthWord (s .places) w g) g

@@ -1,11 +1,10 @@
-// Passes over the arcs of labelled places: for the number with which a query ends, and for the parents of a route.
+// Passes over what a search has recorded: for the number with which a query ends, and for the goal and the parents of a route.
 use map::Site;
 ghost use mathlib.Core.Path.{_≡_};
 ghost use Prim.Native.Nat.{suc};
-ghost use Rattle.layout.specs.Labels.{Labelled};
 ghost use Rattle.layout.specs.Rows.{IsArcWord};
-ghost use Rattle.scans.specs.Area.{Listed, IsNextLimit, HasParents};
-ghost use Rattle.scans.specs.Scans.{Crossed, LimitRow, LimitByRow, parentStored, ParentsRow, ParentsBelow};
+ghost use Rattle.scans.specs.Area.{Listed, IsNextLimit, Recorded, HasParents, LowestGoal, NearestGoal};
+ghost use Rattle.scans.specs.Scans.{Crossed, LimitRow, LimitByRow, parentStored, ParentsRow, ParentsBelow, Choosable, nearerOf};
 
 const NONE: u32 = layout::NONE;
 
@@ -53,14 +52,17 @@ pub fn next_limit(work: &[u32], site: Site, count: usize) -> u32
     best
 }
 
-// The arc with the word x, from u with the label d: u is the parent of its end, if that is labelled d plus the arc's cost
-// and has no parent yet.
-fn parent_by(work: &mut [u32], n: usize, u: u32, d: u32, x: u32)
+// The arc with the word x, from u with the label d, which makes k arcs from the start: u is the parent of its end, if that is labelled d plus
+// the arc's cost, lies at depth k, and has no parent yet.
+fn parent_by(work: &mut [u32], n: usize, u: u32, d: u32, k: u32, x: u32)
     requires { ⌜ IsArcWord n d x (now work) ⌝ }
-    ensures { λ _. ⌜ now (work .exit) ≡ parentStored n u d x (now (work .entry)) ⌝ }
+    ensures { λ _. ⌜ now (work .exit) ≡ parentStored n u d k x (now (work .entry)) ⌝ }
 {
     let v = layout::arc_end(x);
     if layout::label(work, v) != d + layout::arc_cost(x) {
+        return;
+    }
+    if layout::depth(work, n, v) != k {
         return;
     }
     if layout::parent(work, n, v) == NONE {
@@ -78,18 +80,19 @@ fn row_parents(work: &mut [u32], site: Site, u: usize)
     if d == NONE {
         return;
     }
+    let arcs = layout::depth(work, n, u) + 1;
     let mut k = layout::row_start(work, n, u);
     let end = layout::row_end(work, n, u);
     while k < end {
         let x = layout::arc(work, n, k);
-        parent_by(work, n, u as u32, d, x);
+        parent_by(work, n, u as u32, d, arcs, x);
         k += 1;
     }
 }
 
 // Places in rising order, so that the first parent found is the lowest-numbered.
 pub fn parents(work: &mut [u32], site: Site)
-    requires { ⌜ Labelled site (now work) ⌝ }
+    requires { ⌜ Recorded site (now work) ⌝ }
     ensures { λ _. ⌜ HasParents site (now (work .entry)) (now (work .exit)) ⌝ }
 {
     let n = site.places;
@@ -99,4 +102,38 @@ pub fn parents(work: &mut [u32], site: Site)
         row_parents(work, site, u);
         u += 1;
     }
+}
+
+// The goal v where it has the label of `goal` and a smaller depth, or else `goal`.
+fn nearer(work: &[u32], site: Site, goal: usize, v: usize) -> usize
+    requires { ⌜ Choosable site goal v (now work) ⌝ }
+    ensures { λ r. ⌜ r ≡ nearerOf (site .places) goal v (now (work .entry)) ⌝ }
+{
+    let n = site.places;
+    if !layout::is_goal(work, n, v) {
+        return goal;
+    }
+    if layout::label(work, v) != layout::label(work, goal) {
+        return goal;
+    }
+    if layout::depth(work, n, v) < layout::depth(work, n, goal) {
+        v
+    } else {
+        goal
+    }
+}
+
+// Of the goals with the label of `first`, which is the lowest-numbered of them, the one of least depth, and of such the lowest-numbered.
+pub fn nearest_goal(work: &[u32], site: Site, first: u32) -> u32
+    requires { ⌜ LowestGoal site first (now work) ⌝ }
+    ensures { λ r. ⌜ NearestGoal site first (now (work .entry)) r ⌝ }
+{
+    let n = site.places;
+    let mut goal = first as usize;
+    let mut v = goal + 1;
+    while v < n {
+        goal = nearer(work, site, goal, v);
+        v += 1;
+    }
+    goal as u32
 }

@@ -1,25 +1,28 @@
 -- A turn of the rounds: from the area and the round's record as a query begins to the next turn or the end. Assumes nothing.
-use mathlib.Core.Path.{_≡_, refl, sym, ap, _∙_}
+use mathlib.Core.Path.{_≡_, refl, sym, ap, subst, subst⁻¹, _∙_}
 use mathlib.Core.Bool.{Bool, true, false}
 use mathlib.Core.List.{List}
 use mathlib.Core.Option.{some}
 use Prim.Native.Nat.{ℕ, _+_, _-_, _*_, _^_, _≤_, _<_}
-use native.Mathlib.Nat.{mul-le-mul}
+use native.Mathlib.Nat.{le-refl, mul-le-mul}
 use native.Mathlib.Omega.{arith}
 use lib.ListN.{length, drop}
 use Rattle.map.specs.declared.Site.{Site}
 use Rattle.layout.specs.Regions.{endsAt, estimateWord, HasPlace}
 use Rattle.layout.specs.Map.{problemAt, Holds}
+use Rattle.layout.specs.Labels.{labels}
+use Rattle.layout.proofs.Labels.{label-is, is-label}
 use Rattle.layout.proofs.Held.{problem-same, holds-same, few-places, map-room, has-place, estimate-word}
 use Rattle.model.specs.Limits.{maxPlaces}
-use Rattle.model.specs.Problem.{Problem, Valid}
-use Rattle.model.specs.Costs.{table}
+use Rattle.model.specs.Problem.{Problem, IsGoal, Valid}
+use Rattle.model.specs.Costs.{costAt, table}
 use Rattle.model.specs.Query as model
 use Rattle.model.specs.Query.{Key, query}
 use Rattle.model.specs.Rounds as rounds
 use Rattle.model.specs.Rounds.{firstRound, limitOf, ask, next, trace}
-use Rattle.model.specs.Routes.{routeTo}
+use Rattle.model.specs.Routes.{firstRoute}
 use Rattle.model.specs.Endings.{routed, budgeted}
+use Rattle.model.proofs.Keys.{first-goal-some}
 use Rattle.model.proofs.Laws as laws
 use Rattle.query.specs.Query.{Ready, Preparable, outcomeOf, Askable, Answered, FoundAt}
 use Rattle.query.specs.declared.Asked.{Asked}
@@ -203,26 +206,53 @@ module _ {s : Site} {a : ℕ} {w₀ w : List ℕ} {round : Round} {t q limit : �
         goal : FoundAt problem (limitIn round) (r .place) w′
         goal = at-goal (sym (h .carries) ∙ f)
 
+        g : Key
+        g = record { cost = goal .cost; place = r .place }
+
+        room : s .places ≤ length w′
+        room = omega (arith, map-room s w₀ (u .holds), kept-length)
+
+        goal-label : costAt (labels (s .places) w′) (r .place) ≡ some (goal .cost)
+        unfolding problemAt g
+        goal-label =
+            let entry = first-goal-some problem (table problem (limitIn round)) g (goal .is-first) .entry in
+            goal .agrees .entry-label (r .place) (goal .cost) entry (le-refl (goal .cost))
+
         pub turn-goal : GoalLabelled s (r .place) w′
-        unfolding problemAt
+        unfolding problemAt g
         turn-goal =
             let holds = holds-same s w′ w₀ kept-map kept-length (u .holds) in
-            record { labelled = record { holds = holds; label-below = goal .label-below }; cost = goal .cost; label = goal .label }
+            let same = problem-same s w′ w₀ kept-map in
+            let first = first-goal-some problem (table problem (limitIn round)) g (goal .is-first) in
+            let own = label-is (s .places) w′ room (r .place) (goal .cost) goal-label in
+            record {
+              recorded = record { labelled = record { holds = holds; label-below = goal .label-below }; depth-below = goal .depth-below };
+              lowest = record {
+                holds = holds;
+                is-goal = subst⁻¹ (λ (x : Problem). IsGoal x (r .place)) same (first .is-goal);
+                lowest = λ h i l.
+                    let is = subst (λ (x : Problem). IsGoal x h) same i in
+                    let label = is-label (s .places) w′ room h (goal .cost) (record {
+                      place = valid .goal-below h is;
+                      word = l ∙ own .word;
+                      some = own .some;
+                    }) in
+                    first .lowest h is (goal .agrees .label-entry h (goal .cost) label (le-refl (goal .cost)));
+              };
+              cost = goal .cost;
+              label = goal-label;
+            }
 
-        -- the parents are set, and the area is w″
+        -- goal and parents are found, and the area is w″
         module _ (w″ : List ℕ) (v : Verdict) (parented : Parented s (r .place) limit (t + r .count) (q + 1) w′ w″ v) where
-          g : Key
-          g = record { cost = goal .cost; place = r .place }
-
           route : List ℕ
-          route = routeTo problem (table problem (limitIn round)) g
+          route = firstRoute problem (table problem (limitIn round)) g
 
           same-cost : goal .cost ≡ parented .cost
-          unfolding problemAt
-          same-cost = let found = goal .label in let label = parented .label in cc
+          same-cost = let found = goal-label in let label = parented .label in cc
 
           reached : Reached
-          reached = record { cost = parented .cost; goal = r .place; limit = limit; expansions = t + r .count; queries = q + 1 }
+          reached = record { cost = parented .cost; goal = parented .goal; limit = limit; expansions = t + r .count; queries = q + 1 }
 
           ends : budgeted problem a ≡ routed (reachedBy route reached)
           unfolding g route reached
@@ -239,5 +269,6 @@ module _ {s : Site} {a : ℕ} {w₀ w : List ℕ} {round : Round} {t q limit : �
           pub turn-routed : Searched s a w₀ w″ v
           unfolding g route reached
           turn-routed =
-              let follows = follows-route s (limitIn round) (r .place) w₀ w′ w″ valid kept-map goal (parented .parents) in
+              let follows =
+              follows-route s (limitIn round) (r .place) (parented .goal) w₀ w′ w″ valid kept-map room goal (parented .parents) (parented .nearest) in
               record { same-map = parented .parents .same-map ∙ kept-map; means = rw (parented .verdict) (route, ends, follows) }

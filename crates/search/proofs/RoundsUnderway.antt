@@ -12,8 +12,8 @@ use Rattle.model.specs.Problem.{Problem, Valid}
 use Rattle.model.specs.Costs.{table}
 use Rattle.model.specs.Query.{Key, firstGoal, Outcome, ended, over, found, nothing, query}
 use Rattle.model.specs.Rounds.{Round, Step, firstRound, limitOf, settle, after, ask, next, trace, total, search}
-use Rattle.model.specs.Routes.{routeTo}
-use Rattle.model.specs.Endings.{spent, noRoute, routed, finished, endingIf, budgeted}
+use Rattle.model.specs.Routes.{firstRoute}
+use Rattle.model.specs.Endings.{spent, noRoute, routed, finished, endingIf, budgetedBy, budgeted}
 use Rattle.model.specs.Terms.{RoundKept, CutAt, Run, last, more}
 use Rattle.model.proofs.Lists.{none-some}
 use Rattle.model.proofs.Queries.{nothing-next}
@@ -124,7 +124,7 @@ module _ (p : Problem) (ok : Valid p) (a : ℕ) where
         }
 
     pub ends-spent : a - t < costOf p r → budgeted p a ≡ spent (record { floor = r .low; expansions = a; queries = q + 1 })
-    unfolding budgeted endingIf ask total
+    unfolding budgetedBy endingIf ask total
     ends-spent h =
         let here = is-cut h in
         let whole = total-append (here .earlier) (ask p r ∷ here .later) in
@@ -167,7 +167,7 @@ module _ (p : Problem) (ok : Valid p) (a : ℕ) where
 
     pub ends-no-route : outcomeIn p r ≡ nothing → costOf p r ≤ a - t
         → budgeted p a ≡ noRoute (record { start = p .start; limit = limitOf (r .low) (r .high); expansions = t + costOf p r; queries = q + 1 })
-    unfolding budgeted endingIf finished ask next after
+    unfolding budgetedBy endingIf finished ask next after
     ends-no-route e h =
         let no-goal = nothing-next p (limitOf (r .low) (r .high)) (r .budget) e .0 in
         rw (closed (rw e refl) h, no-goal)
@@ -177,12 +177,12 @@ module _ (p : Problem) (ok : Valid p) (a : ℕ) where
         → budgeted p a
         ≡ routed (record {
           cost = g .cost;
-          places = routeTo p (table p (limitOf (r .low) (r .high))) g;
+          places = firstRoute p (table p (limitOf (r .low) (r .high))) g;
           limit = limitOf (r .low) (r .high);
           expansions = t + costOf p r;
           queries = q + 1;
         })
-    unfolding budgeted endingIf finished ask next after
+    unfolding budgetedBy endingIf finished ask next after
     ends-routed e h g is-first = rw (closed (rw e refl) h, is-first)
 
 -- what follows a query that neither found a goal nor the lack of one

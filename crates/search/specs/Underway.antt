@@ -7,14 +7,14 @@ use lib.ListN.{length, drop}
 use Rattle.map.specs.declared.Site.{Site}
 use Rattle.layout.specs.Regions.{endsAt}
 use Rattle.layout.specs.Map.{problemAt}
-use Rattle.layout.specs.Labels.{labels, Labelled}
+use Rattle.layout.specs.Labels.{labels}
 use Rattle.model.specs.Problem.{Problem}
 use Rattle.model.specs.Costs.{costAt}
 use Rattle.model.specs.Query as query
 use Rattle.model.specs.Rounds as model
 use Rattle.model.specs.Rounds.{after, Step, trace}
 use Rattle.model.specs.Terms.{Run}
-use Rattle.scans.specs.Area.{HasParents}
+use Rattle.scans.specs.Area.{Recorded, HasParents, LowestGoal, NearestGoal}
 use Rattle.query.specs.Query.{Ready, outcomeOf}
 use Rattle.query.specs.declared.Outcome.{Outcome}
 use Rattle.search.specs.Rounds.{highOf, roundOf}
@@ -43,17 +43,20 @@ pub record RoundAfter (round : Round) (growth limit : ℕ) (outcome : Outcome) (
   pub finished : after growth (roundOf round) limit (outcomeOf outcome) ≡ none → roundOf r ≡ roundOf round
   pub carries : r .outcome ≡ outcome
 
--- the goal has a label
-pub record GoalLabelled (s : Site) (goal : ℕ) (w : List ℕ) : Type 0 where
-  pub labelled : Labelled s w
+-- the first goal has a label, and is the lowest-numbered of those that have it
+pub record GoalLabelled (s : Site) (first : ℕ) (w : List ℕ) : Type 0 where
+  pub recorded : Recorded s w
+  pub lowest : LowestGoal s first w
   pub cost : ℕ
-  pub label : costAt (labels (s .places) w) goal ≡ some cost
+  pub label : costAt (labels (s .places) w) first ≡ some cost
 
--- the goal's label is the verdict's cost, and the parents lead back from it
-pub record Parented (s : Site) (goal limit expansions queries : ℕ) (w₀ w : List ℕ) (r : Verdict) : Type 0 where
+-- the first goal's label is the verdict's cost, and the parents lead back from the goal with that label that comes first by depth
+pub record Parented (s : Site) (first limit expansions queries : ℕ) (w₀ w : List ℕ) (r : Verdict) : Type 0 where
   pub parents : HasParents s w₀ w
   pub cost : ℕ
-  pub label : costAt (labels (s .places) w₀) goal ≡ some cost
+  pub label : costAt (labels (s .places) w₀) first ≡ some cost
+  pub goal : ℕ
+  pub nearest : NearestGoal s first w₀ goal
   pub verdict : r ≡ Routed (record { cost = cost; goal = goal; limit = limit; expansions = expansions; queries = queries })
 
 -- The queries done, whose total the allowance lasts for and the last of which, if any, had outcome o; and those from round r on to the one

@@ -132,20 +132,21 @@ fn no_goal(limit: u32, expansions: u32, queries: u32) -> Verdict
     })
 }
 
-// The goal's label is its cost; the parents lead back from it.
+// The goals at the cost of the first one, which ended the query, are compared; the parents lead back from the one that comes first.
 fn found(
     work: &mut [u32],
     site: Site,
-    goal: u32,
+    first: u32,
     limit: u32,
     expansions: u32,
     queries: u32,
 ) -> Verdict
-    requires { ⌜ GoalLabelled site goal (now work) ⌝ }
-    ensures { λ r. ⌜ Parented site goal limit expansions queries (now (work .entry)) (now (work .exit)) r ⌝ }
+    requires { ⌜ GoalLabelled site first (now work) ⌝ }
+    ensures { λ r. ⌜ Parented site first limit expansions queries (now (work .entry)) (now (work .exit)) r ⌝ }
 {
+    let cost = layout::label(work, first as usize);
+    let goal = scans::nearest_goal(work, site, first);
     scans::parents(work, site);
-    let cost = layout::label(work, goal as usize);
     Verdict::Routed(Reached {
         cost,
         goal,

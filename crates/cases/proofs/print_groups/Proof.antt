@@ -8,7 +8,7 @@ abbrev Inv-loop : tie.InvT-loop
 Inv-loop right wrong group₀ group = Unit {0}
 
 abbrev μ-loop : tie.MeasureT-loop
-μ-loop right wrong group₀ group = 7 - group
+μ-loop right wrong group₀ group = 8 - group
 
 loop-holds : tie.Need-loop-holds Inv-loop μ-loop
 loop-holds c = search needs

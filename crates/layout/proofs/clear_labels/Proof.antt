@@ -5,8 +5,8 @@ use borrow.Author.Needs.{needs}
 use Rattle.layout.proofs.clear_labels.Statement.{statement}
 use Rattle.layout.proofs.clear_labels.Tie as tie
 
-open-at-requires : tie.Need-open-at-requires
-open-at-requires c κs = search needs
+depths-at-requires : tie.Need-depths-at-requires
+depths-at-requires c κs = search needs
 
 sub-fill : tie.Need-sub-fill
 sub-fill c = search needs
@@ -27,13 +27,13 @@ returns : tie.Need-returns
 unfolding part
 returns c =
     let at = c .before .before .before .before in
-    labels-cleared _ _ _ _ (at .open-at .ensures) (at .before .before .pre .1) (c .before .before .fill .ensures)
+    labels-cleared _ _ _ _ (at .depths-at .ensures) (at .before .before .pre .1) (c .before .before .fill .ensures)
 
 pub clear-labels-spec : {M : Type 1} → statement M
 clear-labels-spec =
     tie.close
     (tie.spec
-    open-at-requires
+    depths-at-requires
     sub-fill
     part-fill-start
     part-fill-end

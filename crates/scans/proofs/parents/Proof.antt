@@ -1,4 +1,4 @@
--- The invariant of the loop: labels and map are as before, and the parents are those that the rows of the places below u give.
+-- The invariant of the loop: labels, depths and map are as before, and the parents are those that the rows of the places below u give.
 -- The measure is what is left of the places. Assumes nothing.
 use mathlib.Core.Path.{_∙_}
 use Prim.Native.Nat.{_-_}
@@ -16,7 +16,7 @@ abbrev μ-loop : tie.MeasureT-loop
 μ-loop work₀ site n u₀ work u = n - u
 
 clear-parents-requires : tie.Need-clear-parents-requires Inv-loop μ-loop
-clear-parents-requires c κs = let holds = c .before .before .pre .holds in (few-places _ _ holds, map-room _ _ holds)
+clear-parents-requires c κs = let holds = c .before .before .pre .labelled .holds in (few-places _ _ holds, map-room _ _ holds)
 
 loop-holds : tie.Need-loop-holds Inv-loop μ-loop
 loop-holds c =

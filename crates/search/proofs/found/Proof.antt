@@ -1,31 +1,36 @@
--- The passes over the arcs keep the labels, so that the word at the goal is its label. Assumes nothing.
+-- The cost is the first goal's label; goal and parents are what the passes over the records give. Assumes nothing.
+use mathlib.Core.Path.{refl}
 use Rattle.layout.proofs.Labels.{label-kept}
 use borrow.Author.Needs.{needs}
 use Rattle.search.proofs.found.Statement.{statement}
 use Rattle.search.proofs.found.Tie as tie
 
-parents-requires : tie.Need-parents-requires
-parents-requires c κs = search needs
-
 label-requires : tie.Need-label-requires
-label-requires c κs =
-    let parents = c .before .before .before in
-    label-kept _ _ _ (parents .parents .ensures .same-labels) _ _ (parents .before .before .before .pre .label) .1
+label-requires c κs = label-kept _ _ _ refl _ _ (c .before .before .pre .label) .1
+
+nearest-goal-requires : tie.Need-nearest-goal-requires
+nearest-goal-requires c κs = c .before .before .before .before .pre .lowest
+
+parents-requires : tie.Need-parents-requires
+parents-requires c κs = c .before .before .before .before .before .before .pre .recorded
 
 same-length : tie.Need-same-length
 same-length c = search needs
 
 returns : tie.Need-returns
 returns c =
-    let parents = c .before .before .before .before in
-    let start = parents .before .before .before in
-    let word = label-kept _ _ _ (parents .parents .ensures .same-labels) _ _ (start .pre .label) .2 in
+    let nearest = c .before .before .before .before in
+    let label = nearest .before .before in
+    let start = label .before .before .before in
+    let word = label-kept _ _ _ refl _ _ (start .pre .label) .2 in
     record {
-      parents = parents .parents .ensures;
+      parents = c .before .before .parents .ensures;
       cost = start .pre .cost;
       label = start .pre .label;
-      verdict = rw (c .label .ensures, word);
+      goal = nearest .nearest-goal .result;
+      nearest = nearest .nearest-goal .ensures;
+      verdict = rw (label .label .ensures, word);
     }
 
 pub found-spec : {M : Type 1} → statement M
-found-spec = tie.close (tie.spec parents-requires label-requires same-length returns)
+found-spec = tie.close (tie.spec label-requires nearest-goal-requires parents-requires same-length returns)
