@@ -18,7 +18,8 @@ use Rattle.model.proofs.Indices.{getD-default}
 use Rattle.area.specs.Part.{part}
 use Rattle.area.proofs.Parts.{same-before, less-before, part-length, part-back-low, drop-back, back-length, back-at}
 use Rattle.map.specs.declared.Site.{Site}
-use Rattle.layout.specs.Regions.{depthsAt, openAt, parentsAt, endsAt, arcsAt, labelWord, depthWord, parentWord, withLabel, withDepth, withParent}
+use Rattle.layout.specs.Regions.{depthsAt, openAt, parentsAt, endsAt, arcsAt}
+use Rattle.layout.specs.Regions.{labelWord, depthWord, parentWord, withLabel, withDepth, withParent}
 use Rattle.layout.specs.Labels.{noWord, wordOr, labels, depths, Labelled, Kept, NoLabels, NoParents, parentAt}
 use Rattle.layout.proofs.Held.{holds-same}
 

@@ -13,7 +13,7 @@ use lib.ListN.{length}
 use Rattle.model.specs.Numbers.{binaryDigits}
 use Rattle.model.specs.Problem.{Problem, Arc, IsArc, IsGoal, Valid}
 use Rattle.model.specs.Paths.{Walk, stay, on, places, PathTo, GoalReachable, Route}
-use Rattle.model.specs.Paths.{Within, PathWithin, RouteWithin, Cheapest, FirstCheapest, FirstWithin, Admissible}
+use Rattle.model.specs.Paths.{Within, PathWithin, RouteWithin, Cheapest, FirstCheapest, Admissible}
 use Rattle.model.specs.Costs.{costAt, table}
 use Rattle.model.specs.Query.{Key, within, firstGoal, nextLimit, Outcome, ended, over, found, nothing, query}
 use Rattle.model.specs.Rounds.{Round, Step, firstRound, limitOf, closeIf, settle, after, ask, next, trace, total}

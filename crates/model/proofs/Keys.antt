@@ -209,10 +209,10 @@ first-goal-is p t g f = go (firstGoal p t) refl
     go none e = absurd (first-goal-none p t e (g .place) (f .is-goal) (record { cost = g .cost; is = f .entry }))
     go (some k) e =
         let other = first-goal-some p t k e in
-        let cost : k .cost ≡ g .cost =
-        omega (arith, other .cheapest (g .place) (g .cost) (f .is-goal) (f .entry), f .cheapest (k .place) (k .cost) (other .is-goal) (other .entry)) in
-        let place : k .place ≡ g .place =
-        omega (arith, other .lowest (g .place) (f .is-goal) (rw cost (f .entry)), f .lowest (k .place) (other .is-goal) (rw cost at (other .entry))) in
+        let no-dearer = other .cheapest (g .place) (g .cost) (f .is-goal) (f .entry) in
+        let cost : k .cost ≡ g .cost = omega (arith, f .cheapest (k .place) (k .cost) (other .is-goal) (other .entry)) in
+        let no-higher = other .lowest (g .place) (f .is-goal) (rw cost (f .entry)) in
+        let place : k .place ≡ g .place = omega (arith, f .lowest (k .place) (other .is-goal) (rw cost at (other .entry))) in
         ap {B = Option Key} some (λ j. record { cost = cost j; place = place j })
 
 pub length-at-most : (g : Option Key) (ks : List Key) → lengthTo g ks ≤ length ks

@@ -46,9 +46,10 @@ pub use Rattle.model.proofs.Admissible.{admissible-total, some-within-c
 pub use Rattle.model.proofs.Admissible.{none-unreachable, found-reachable}
 -- ---- The route
 
--- Any estimates: the route is the first cheapest one within the limit, with the fewest places. There is only one first cheapest route.
+-- Any estimates: the route is the first cheapest one within the limit, with the fewest places. It ends at the goal that comes first by the number of
+-- places on the way to it, then by its own number. There is only one first cheapest route.
 pub use Rattle.model.proofs.LeastPaths.{route-within}
-pub use Rattle.model.proofs.Routes.{first-cheapest-unique}
+pub use Rattle.model.proofs.Routes.{first-ends, first-cheapest-unique}
 -- For it the least paths are a problem of their own: its paths are just the paths within the limit that cost as little as D, and each costs as many
 -- arcs as it has.
 pub use Rattle.model.proofs.LeastPaths.{counted-least, least-counted}
@@ -62,6 +63,10 @@ pub use Rattle.model.proofs.Admissible.{low-at-most-cheapest, goal-with
 pub use Rattle.model.proofs.Allowance.{spent-exactly, spent-cut, not-spent, cut-forward}
 -- So the search ends as spent, with no route or with a route; floor and limit are those of its last query.
 pub use Rattle.model.proofs.Endings.{budgeted-ends}
+-- ---- The rule for the route decides no number
+
+-- With any two rules for the route, all numbers of a call but the sheet's bytes are the same.
+pub use Rattle.model.proofs.RouteRules.{same-numbers}
 -- ---- The order of arcs and goals has no part in it
 
 -- Two problems that differ only in the order and repetition of their arcs and goals end alike under every allowance.

@@ -4,13 +4,12 @@ use mathlib.Core.Path.{_≡_, refl, sym, ap, subst, subst⁻¹, _∙_}
 use mathlib.Core.Logic.{_↔_}
 use mathlib.Core.List.{List, [], _∷_, _++_}
 use mathlib.Core.Option.{Option, none, some}
-use Prim.Native.Nat.{ℕ, suc, _+_, _≤_, _<_}
+use Prim.Native.Nat.{ℕ, suc, _+_, _≤_}
 use native.Mathlib.Nat.{le-refl}
 use native.Mathlib.Omega.{arith}
 use lib.Dec.{eqb}
 use lib.ListN.{length, length-append}
 use borrow.Author.Tests.{eqb-true, eq-eqb}
-use Rattle.model.specs.Lists.{filterMap}
 use Rattle.model.specs.Problem.{Problem, Arc, IsArc, IsGoal, Valid}
 use Rattle.model.specs.Paths.{Walk, stay, on, places, arcCount, PathTo, Within, RouteWithin, First, FirstWithin}
 use Rattle.model.specs.Costs.{Table, costAt, sameEntry, table}

@@ -28,7 +28,8 @@ no-change : (a : Answer) → SameNumbers a a
 no-change a = record { number = refl; cost = refl; limit = refl; floor = refl; expansions = refl; queries = refl }
 
 module _ (f g : RouteRule) where
-  finished-numbers : (p : Problem) (s : Search) (t : Table) (o : Option Key) → SameNumbers (answerOf (finished f p s t o)) (answerOf (finished g p s t o))
+  finished-numbers : (p : Problem) (s : Search) (t : Table) (o : Option Key)
+      → SameNumbers (answerOf (finished f p s t o)) (answerOf (finished g p s t o))
   unfolding finished answerOf
   finished-numbers p s t none = no-change _
   finished-numbers p s t (some k) = record { number = refl; cost = refl; limit = refl; floor = refl; expansions = refl; queries = refl }

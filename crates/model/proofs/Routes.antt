@@ -1,11 +1,11 @@
 -- The route that document 01's rule gives is the first, read from the goal back, of the cheapest ones within the limit; and a first cheapest route is
 -- the only one. Assumes nothing.
-use mathlib.Core.Path.{_≡_, refl, sym, ap}
+use mathlib.Core.Path.{_≡_, refl, sym}
 use mathlib.Core.Logic.{_⊎_, inl, inr}
 use mathlib.Core.Bool.{Bool, true, false, cond, _&&_}
-use mathlib.Core.List.{List, [], _∷_, _++_, List·Memᴰ, append-assoc, append-nil, concat-ne-nil, cons-ne-nil, append-ne-nil-of-right-ne-nil}
+use mathlib.Core.List.{List, [], _∷_, _++_, List·Memᴰ, append-assoc, concat-ne-nil, cons-ne-nil, append-ne-nil-of-right-ne-nil}
 use mathlib.Core.Option.{Option, none, some}
-use Prim.Native.Nat.{ℕ, zero, suc, _+_, _≤_, _<_}
+use Prim.Native.Nat.{ℕ, zero, suc, _+_, _≤_}
 use native.Mathlib.Omega.{arith}
 use native.Mathlib.Nat.{le-refl}
 use lib.Dec.{eqb}
@@ -13,11 +13,11 @@ use lib.ListN.{length, length-append}
 use borrow.Author.Tests.{eqb-true, eq-eqb}
 use Rattle.model.specs.Lists.{filterMap}
 use Rattle.model.specs.Problem.{Problem, Arc, IsArc, Valid}
-use Rattle.model.specs.Paths.{Least, Walk, stay, on, places, PathTo, Route, Within, RouteWithin, Fewest, FirstBack, FirstCheapest}
+use Rattle.model.specs.Paths.{Least, Walk, stay, on, places, PathTo, Route, Within, RouteWithin, Fewest, FirstBack, First, FirstCheapest}
 use Rattle.model.specs.Costs.{Table, costAt, table}
 use Rattle.model.specs.Query.{Key, firstGoal}
 use Rattle.model.specs.Routes.{parentBy, parent, extend, routeUpTo, routeTo}
-use Rattle.model.specs.Terms.{AtMost}
+use Rattle.model.specs.Terms.{AtMost, NoMore}
 use Rattle.model.proofs.Lists.{none-some, both, filterMap-member, least-none, least-some}
 use Rattle.model.proofs.LeastCosts.{Via, start-below, end-below, entry-path, path-entry, arc-entry, entry-via}
 use Rattle.model.proofs.Keys.{IsFirstGoal, first-goal-some}
@@ -298,7 +298,7 @@ module _ (p : Problem) (ok : Valid p) (C : ℕ) (g : Key) (e : firstGoal p (tabl
 
 -- the first of the same routes is the same
 pub first-same : {R S : List ℕ → Type 0} {r : List ℕ} → ((s : List ℕ) → R s → S s) → ((s : List ℕ) → S s → R s)
-    → FirstBack (Fewest R) r → FirstBack (Fewest S) r
+    → First R r → First S r
 first-same to from f =
     record {
       member = record { member = to _ (f .member .member); fewest = λ s z. f .member .fewest s (from s z) };
@@ -306,14 +306,24 @@ first-same to from f =
           f .lowest x y read u v e (record { member = from _ (z .member); fewest = λ s i. z .fewest s (to s i) });
     }
 
+-- Where the first route ends: at the goal that comes first by the number of places on the way to it, then by its own number.
+pub first-ends : {R : List ℕ → Type 0} {r : List ℕ} → First R r → (x y : List ℕ) (g h : ℕ) → r ≡ x ++ (g ∷ []) → R (y ++ (h ∷ []))
+    → NoMore (length r) g (length (y ++ (h ∷ []))) h
+first-ends {r = r} f x y g h ends other =
+    let fewest = f .member .fewest in
+    record {
+      first = fewest (y ++ (h ∷ [])) other;
+      second = λ same. f .lowest x y [] g h ends (record { member = other; fewest = λ s i. omega (arith, fewest s i) });
+    }
+
 -- there is only one first route
-first-unique : {R : List ℕ → Type 0} (r s : List ℕ) → FirstBack (Fewest R) r → FirstBack (Fewest R) s → r ≡ s
+first-unique : {R : List ℕ → Type 0} (r s : List ℕ) → First R r → First R s → r ≡ s
 first-unique {R} r s f g = same-from-back r s size (not-after r s f g) (not-after s r g f)
   where
     size : length r ≡ length s
     size = omega (arith, f .member .fewest s (g .member .member), g .member .fewest r (f .member .member))
 
-    not-after : (r s : List ℕ) → FirstBack (Fewest R) r → FirstBack (Fewest R) s → NotAfter r s
+    not-after : (r s : List ℕ) → First R r → First R s → NotAfter r s
     not-after r s f g x y read u v i j = f .lowest x y read u v i (rw j at (g .member))
 
 pub first-cheapest-unique : (p : Problem) (c e : ℕ) (r s : List ℕ) → FirstCheapest p c r → FirstCheapest p e s → (c ≡ e) × (r ≡ s)

@@ -1,4 +1,5 @@
--- What paths, their costs and the first among them are, with no search in it: source document 003, section 2, and document 01, "The search".
+-- What paths, their costs and the first among them are, with no search in it: source document 003, section 2, document 01,
+-- "The search", and document 02, paper 2.
 use mathlib.Core.Path.{_≡_}
 use mathlib.Core.List.{List, [], _∷_, _++_}
 use Prim.Native.Nat.{ℕ, suc, _+_, _≤_, _<_}

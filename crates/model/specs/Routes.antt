@@ -60,8 +60,8 @@ unfoldable pub routeToFirst : Problem → Table → Option Key → List ℕ
 routeToFirst p t none = []
 routeToFirst p t (some g) = routeTo p t g
 
--- The route of a table whose first goal is g, of which only its D has a part in it: document 01's rule among the least paths with the fewest arcs.
--- There are no more of those than D, since each arc costs at least 1.
+-- The route of a table whose first goal is g, of which only its D has a part in it: document 01's rule, once more, on the least paths. Each arc costs
+-- at least 1, so that a least path to a goal at that D has at most as many arcs.
 unfoldable pub firstRoute : Problem → Table → Key → List ℕ
 firstRoute p t g =
     let q = leastPaths p t (g .cost) in

@@ -167,7 +167,8 @@ module _ {s : Site} {limit budget left : ℕ} {w₀ : List ℕ} {hand : ℕ} {w 
             is-first = goal-found p valid limit label settled front v d first goal;
             agrees = labels-agree;
             depths = λ u x e l.
-                depth-entry p valid limit label (depthWord n w) settled front (searching .fewest) v d first goal u x e l (labels-agree .label-entry u x e l);
+                let entry = labels-agree .label-entry u x e l in
+                depth-entry p valid limit label (depthWord n w) settled front (searching .fewest) v d first goal u x e l entry;
             label-below = label-below s under;
             depth-below = depth-below s under;
           };

@@ -10,7 +10,8 @@ use borrow.Author.Tests.{lt-ltb, le-ltb}
 use Rattle.area.proofs.Parts.{same-before, less-after}
 use Rattle.open_list.specs.Entry.{noKey}
 use Rattle.map.specs.declared.Site.{Site}
-use Rattle.layout.specs.Regions.{depthsAt, openAt, parentsAt, endsAt, estimatesAt, arcsAt, labelWord, depthWord, estimateWord, arcWord, withDepth, arcEnd, arcCost, HasArc}
+use Rattle.layout.specs.Regions.{depthsAt, openAt, parentsAt, endsAt, estimatesAt, arcsAt, arcEnd, arcCost, HasArc}
+use Rattle.layout.specs.Regions.{labelWord, depthWord, estimateWord, arcWord, withDepth}
 use Rattle.layout.specs.Map.{rowStart, rowEnd}
 use Rattle.layout.proofs.Held.{map-word}
 use Rattle.layout.proofs.Labels.{with-depth-rest, with-depth-labels, with-depth-same, with-depth-other}

@@ -22,10 +22,10 @@ use Rattle.model.specs.Costs.{costAt}
 use Rattle.model.specs.Terms.{AtMost, NoMore}
 use Rattle.model.proofs.Lists.{not-true-false}
 use Rattle.model.proofs.Same.{bool-ext}
-use Rattle.query.specs.Front.{FirstOpen, Expanded, Deepened, also}
+use Rattle.query.specs.Front.{FirstOpen, Gives, Expanded, Deepened, also}
 use Rattle.query.specs.Open.{keys, settledAt}
 use Rattle.query.specs.Query.{Askable}
-use Rattle.query.specs.State.{Coherent, Settles, Settled, ByRow, Fell, Stays, Expands, RowRelaxed, Searching}
+use Rattle.query.specs.State.{Coherent, Settles, Settled, ByRow, Fell, Expands, RowRelaxed, Searching}
 use Rattle.query.proofs.Open.{settled-is, is-settled}
 use Rattle.query.proofs.Settling.{also-same, also-other, keeps-label, next-front}
 use Rattle.query.proofs.Counting.{count-also, count-at-most}
@@ -87,42 +87,39 @@ module _ (s : Site) (limit u d h₀ : ℕ) (w₀ : List ℕ) (holds : Holds s w�
   unfolding problemAt
   row-reached a i f l = at-most n w room (a .to) (d + a .cost) (holds .valid .arc-to a i) (row-by a i f l .first) (omega arith)
 
-  -- what By gives is an arc of u
-  row-arc : (v y : ℕ) → v < n → ByRow n limit d u w₀ v y
-      → (a : Arc) × IsArc p a × (a .from ≡ u) × (a .to ≡ v) × (d + a .cost ≡ y) × (y + p .estimate v ≤ limit)
+  -- what By gives an arc of u gives
+  row-gives : (v y : ℕ) → v < n → ByRow n limit d u w₀ v y → Gives p limit u d v y
   unfolding arcIn
-  row-arc v y l b =
+  row-gives v y l b =
       let estimate = estimate-word s w₀ v l in
-      let arc = at-arc s w₀ holds u (b .number) place (b .from) (b .before) in
-      (arcIn u (arcWord n w₀ (b .number)), arc, refl, b .by .ends, b .by .sum, omega (arith, b .by .within))
-
-  -- a label that stays was there
-  stays-label : {v y : ℕ} → HasLabel n w v y → labelWord w v ≡ labelWord w₀ v → costAt (labels n w₀) v ≡ some y
-  stays-label {v} {y} l same = is-label n w₀ room₀ v y (record { place = l .place; word = sym same ∙ l .word; some = l .some })
+      record {
+        arc = arcIn u (arcWord n w₀ (b .number));
+        is-arc = at-arc s w₀ holds u (b .number) place (b .from) (b .before);
+        from = refl;
+        to = b .by .ends;
+        sum = b .by .sum;
+        within = omega (arith, b .by .within);
+      }
 
   row-deep-sound : (v y : ℕ) → costAt (labels n w) v ≡ some y
-      → ((costAt (labels n w₀) v ≡ some y) × (depthWord n w v ≡ depthWord n w₀ v))
-      ⊎ ((a : Arc) × IsArc p a × (a .from ≡ u) × (a .to ≡ v) × (d + a .cost ≡ y) × (y + p .estimate v ≤ limit) × (depthWord n w v ≡ k))
-  row-deep-sound v y e = go (r .moved v (l .place))
+      → ((costAt (labels n w₀) v ≡ some y) × (depthWord n w v ≡ depthWord n w₀ v)) ⊎ (Gives p limit u d v y × (depthWord n w v ≡ k))
+  row-deep-sound v y e =
+      ⊎-elim
+      (λ t. ⊎-elim (λ same. inl (stayed (t .label), same)) (λ g. inr (given (g .by), g .depth)) (t .depth))
+      (λ f. inr (given (f .by), f .depth))
+      (r .moved v (l .place))
     where
       l : HasLabel n w v y
       l = label-is n w room v y e
 
-      by-arc : ByRow n limit d u w₀ v (labelWord w v) → depthWord n w v ≡ k
-          → (a : Arc) × IsArc p a × (a .from ≡ u) × (a .to ≡ v) × (d + a .cost ≡ y) × (y + p .estimate v ≤ limit) × (depthWord n w v ≡ k)
-      by-arc b deep = let (a, i, from, to, sum, low) = row-arc v y (l .place) (rw (l .word) at b) in (a, i, from, to, sum, low, deep)
+      stayed : labelWord w v ≡ labelWord w₀ v → costAt (labels n w₀) v ≡ some y
+      stayed same = is-label n w₀ room₀ v y (record { place = l .place; word = sym same ∙ l .word; some = l .some })
 
-      go : Stays n (ByRow n limit d u w₀) k h₀ w₀ h w v ⊎ Fell n (ByRow n limit d u w₀) k w₀ h w v
-          → ((costAt (labels n w₀) v ≡ some y) × (depthWord n w v ≡ depthWord n w₀ v))
-          ⊎ ((a : Arc) × IsArc p a × (a .from ≡ u) × (a .to ≡ v) × (d + a .cost ≡ y) × (y + p .estimate v ≤ limit) × (depthWord n w v ≡ k))
-      go (inl t) = ⊎-elim (λ same. inl (stays-label l (t .label), same)) (λ g. inr (by-arc (g .by) (g .depth))) (t .depth)
-      go (inr f) = inr (by-arc (f .by) (f .depth))
+      given : ByRow n limit d u w₀ v (labelWord w v) → Gives p limit u d v y
+      given b = row-gives v y (l .place) (rw (l .word) at b)
 
-  row-sound : (v y : ℕ) → costAt (labels n w) v ≡ some y
-      → (costAt (labels n w₀) v ≡ some y)
-      ⊎ ((a : Arc) × IsArc p a × (a .from ≡ u) × (a .to ≡ v) × (d + a .cost ≡ y) × (y + p .estimate v ≤ limit))
-  row-sound v y e =
-      ⊎-elim (λ t. inl (t .0)) (λ (a, i, from, to, sum, low, deep). inr (a, i, from, to, sum, low)) (row-deep-sound v y e)
+  row-sound : (v y : ℕ) → costAt (labels n w) v ≡ some y → (costAt (labels n w₀) v ≡ some y) ⊎ Gives p limit u d v y
+  row-sound v y e = ⊎-elim (λ t. inl (t .0)) (λ g. inr (g .0)) (row-deep-sound v y e)
 
   row-kept : (v y : ℕ) → AtMost (costAt (labels n w₀) v) y → AtMost (costAt (labels n w) v) y
   row-kept v y a =
@@ -130,7 +127,8 @@ module _ (s : Site) (limit u d h₀ : ℕ) (w₀ : List ℕ) (holds : Holds s w�
       let kept : (labelWord w v ≡ noWord → ⊥) → AtMost (costAt (labels n w) v) y = λ some.
       let is = is-label n w room v (labelWord w v) (record { place = l .place; word = refl; some = some }) in
       record { cost = labelWord w v; is = is; below = omega (arith, l .word, a .below, no-more r v (l .place) .first) } in
-      ⊎-elim (λ t. kept (λ q. l .some (sym (l .word) ∙ sym (t .label) ∙ q))) (λ f. kept (λ q. omega (arith, f .by .by .within))) (r .moved v (l .place))
+      ⊎-elim (λ t. kept (λ q. l .some (sym (l .word) ∙ sym (t .label) ∙ q))) (λ f. kept (λ q. omega (arith, f .by .by .within)))
+      (r .moved v (l .place))
 
   row-expanded : Expanded p limit u d (λ v. costAt (labels n w₀) v) (λ v. costAt (labels n w) v)
   row-expanded = record { kept = row-kept; reached = row-reached; sound = row-sound }
@@ -250,7 +248,8 @@ module _ {s : Site} {limit budget left : ℕ} {w₀ : List ℕ} {hand : ℕ} {w 
           settled-also places hand count v w (searching .coherent) (t .place) hand₁ w₁ c word-some
 
       -- a label that has fallen is that of a place that was not settled, nor is v
-      fell-open : (u : ℕ) → Fell places (ByRow places limit d v w₁) (depthWord places w₁ v + 1) w₁ hand₂ w₂ u → u < places → also (settledAt places hand w) v u ≡ true → ⊥
+      fell-open : (u : ℕ) → Fell places (ByRow places limit d v w₁) (depthWord places w₁ v + 1) w₁ hand₂ w₂ u → u < places
+          → also (settledAt places hand w) v u ≡ true → ⊥
       fell-open u g h a =
           let x = labelled (ℕ-discrete u v) in
           let keeps = keeps-label (problemAt s w₀) (ask .holds .valid) limit (λ u. costAt (labels places w) u) (settledAt places hand w)

@@ -1,26 +1,26 @@
 -- Depths in a uniform-cost search under way: the fewest arcs over the paths found at a label's cost, kept as places are expanded; and where a goal is
 -- the first open place, the fewest over all least paths. Assumes nothing.
-use mathlib.Core.Path.{_≡_, refl, sym, ap, _∙_}
+use mathlib.Core.Path.{_≡_, refl, ap, _∙_}
 use mathlib.Core.Logic.{_⊎_, inl, inr}
 use mathlib.Core.Bool.{Bool, true, false}
 use mathlib.Core.List.{List}
 use mathlib.Core.Option.{Option, some}
-use Prim.Native.Nat.{ℕ, suc, _+_, _≤_, _<_}
-use native.Mathlib.Nat.{le-refl}
+use Prim.Native.Nat.{ℕ, _+_, _≤_, _<_}
 use native.Mathlib.Omega.{arith}
 use Rattle.model.specs.Problem.{Problem, Arc, IsArc, IsGoal, Valid}
-use Rattle.model.specs.Paths.{Least, Walk, stay, on, arcCount, PathTo, Within, PathWithin}
+use Rattle.model.specs.Paths.{Walk, stay, on, arcCount, PathTo, Within, PathWithin}
 use Rattle.model.specs.Costs.{costAt, table}
 use Rattle.model.specs.Routes.{leastPaths}
-use Rattle.model.specs.Terms.{AtMost, NoMore}
+use Rattle.model.specs.Terms.{NoMore}
 use Rattle.model.proofs.Relaxing.{arcs-cost}
 use Rattle.model.proofs.LeastCosts.{entry-below, entry-path, start-below, table-least}
 use Rattle.model.proofs.Routes.{before-least}
 use Rattle.model.proofs.LeastPaths.{LeastPath, count-within, least-paths-valid, counted-least, least-counted}
-use Rattle.query.specs.Front.{Front, Through, PathFound, FewestFound, FirstOpen, Expanded, Deepened, also}
-use Rattle.query.proofs.Settling.{not-both, also-true, also-same, also-still, old-label, still-labelled, path-after}
+use Rattle.query.specs.Front.{Front, Through, PathFound, FewestFound, FirstOpen, Gives, Expanded, Deepened, also}
+use Rattle.query.proofs.Settling.{also-true, also-same, also-still, old-label, still-labelled, path-after}
 use Rattle.query.proofs.Front.{first-open-least}
 
+-- the order is transitive
 pub no-more-on : {a b c d e f : ℕ} → NoMore a b c d → NoMore c d e f → NoMore a b e f
 no-more-on {a} {c = c} {e = e} x y =
     record {
@@ -57,12 +57,16 @@ fewest-same to from f v d e =
     let l = f v d e in
     record { holds = found-wider to (l .holds); least = λ k g. l .least k (found-wider from g) }
 
--- Where each arc of an expanded place gives its end no less than that has, no path found gives less.
+-- no place's label and depth are more than an arc of an expanded place gives it
+abbrev PassedOn : Problem → (C : ℕ) (E : ℕ → Type 0) (label : ℕ → Option ℕ) (depth : ℕ → ℕ) → Type 0
+PassedOn p C E label depth =
+    (a : Arc) (z y : ℕ) → IsArc p a → E (a .from) → label (a .from) ≡ some z → z + a .cost + p .estimate (a .to) ≤ C
+    → label (a .to) ≡ some y → NoMore y (depth (a .to)) (z + a .cost) (depth (a .from) + 1)
+
+-- then they are not more than what a path found gives it
 module _ (p : Problem) (C : ℕ) (E : ℕ → Type 0) (label : ℕ → Option ℕ) (depth : ℕ → ℕ)
     (begins : (y : ℕ) → label (p .start) ≡ some y → NoMore y (depth (p .start)) 0 0)
-    (labelled : (u : ℕ) → E u → (z : ℕ) × (label u ≡ some z))
-    (passed-on : (a : Arc) (z y : ℕ) → IsArc p a → E (a .from) → label (a .from) ≡ some z → z + a .cost + p .estimate (a .to) ≤ C
-    → label (a .to) ≡ some y → NoMore y (depth (a .to)) (z + a .cost) (depth (a .from) + 1)) where
+    (labelled : (u : ℕ) → E u → (z : ℕ) × (label u ≡ some z)) (passed-on : PassedOn p C E label depth) where
   found-no-less : {v d : ℕ} (w : PathTo p v d) → Within C w → Through E w → (y : ℕ) → label v ≡ some y → NoMore y (depth v) d (arcCount w)
   unfolding Within Through arcCount
   found-no-less stay i t y e = begins y e
@@ -81,8 +85,7 @@ module _ (p : Problem) (C : ℕ) (E : ℕ → Type 0) (label : ℕ → Option �
 
 module _ (p : Problem) (ok : Valid p) (C : ℕ) (label : ℕ → Option ℕ) (depth : ℕ → ℕ) (settled : ℕ → Bool) (front : Front p C label settled)
     (fewest : FewestFound p C (λ u. settled u ≡ true) label depth) where
-  passed-on : (a : Arc) (z y : ℕ) → IsArc p a → settled (a .from) ≡ true → label (a .from) ≡ some z → z + a .cost + p .estimate (a .to) ≤ C
-      → label (a .to) ≡ some y → NoMore y (depth (a .to)) (z + a .cost) (depth (a .from) + 1)
+  passed-on : PassedOn p C (λ u. settled u ≡ true) label depth
   passed-on a z y i s l h e =
       record {
         first = entry-below e (front .relaxed a z i s l h);
@@ -99,16 +102,14 @@ module _ (p : Problem) (ok : Valid p) (C : ℕ) (label : ℕ → Option ℕ) (de
     same-record : (u y : ℕ) → also settled v u ≡ true → after u ≡ some y → (label u ≡ some y) × (depth′ u ≡ depth u)
     same-record u y s e = go (deep .sound u y e)
       where
-        go : ((label u ≡ some y) × (depth′ u ≡ depth u))
-            ⊎ ((a : Arc) × IsArc p a × (a .from ≡ v) × (a .to ≡ u) × (d + a .cost ≡ y) × (y + p .estimate u ≤ C) × (depth′ u ≡ depth v + 1))
+        go : ((label u ≡ some y) × (depth′ u ≡ depth u)) ⊎ (Gives p C v d u y × (depth′ u ≡ depth v + 1))
             → (label u ≡ some y) × (depth′ u ≡ depth u)
         go (inl h) = h
-        go (inr (a, i, from, to, sum, low, is)) =
+        go (inr (g, is)) =
             let (l, old) = old-label p ok C label settled front v d f after x u y s e in
-            absurd (omega (arith, ok .cost-above a i, entry-below old l))
+            absurd (omega (arith, ok .cost-above (g .arc) (g .is-arc), g .sum, entry-below old l))
 
-    passed-on-next : (a : Arc) (z y : ℕ) → IsArc p a → also settled v (a .from) ≡ true → after (a .from) ≡ some z
-        → z + a .cost + p .estimate (a .to) ≤ C → after (a .to) ≡ some y → NoMore y (depth′ (a .to)) (z + a .cost) (depth′ (a .from) + 1)
+    passed-on-next : PassedOn p C (λ u. also settled v u ≡ true) after depth′
     passed-on-next a z y i s l h e = go (also-true settled v (a .from) s) (same-record (a .from) z s l)
       where
         go : (settled (a .from) ≡ true) ⊎ (a .from ≡ v) → (label (a .from) ≡ some z) × (depth′ (a .from) ≡ depth (a .from))
@@ -148,14 +149,14 @@ module _ (p : Problem) (ok : Valid p) (C : ℕ) (label : ℕ → Option ℕ) (de
             → NoMore y (depth′ w) z (arcCount path)
         no-less = found-no-less p C (λ u. also settled v u ≡ true) after depth′ begins-next labelled passed-on-next
 
-        go : ((label u ≡ some y) × (depth′ u ≡ depth u))
-            ⊎ ((a : Arc) × IsArc p a × (a .from ≡ v) × (a .to ≡ u) × (d + a .cost ≡ y) × (y + p .estimate u ≤ C) × (depth′ u ≡ depth v + 1))
+        go : ((label u ≡ some y) × (depth′ u ≡ depth u)) ⊎ (Gives p C v d u y × (depth′ u ≡ depth v + 1))
             → PathFound p C (λ u. also settled v u ≡ true) u y (depth′ u)
         go (inl (old, same)) = rw same (found-wider still (fewest u y old .holds))
-        go (inr (a, i, from, to, sum, low, is)) =
-            let first : PathFound p C (λ u. also settled v u ≡ true) (a .from) d (depth v) = rw from (found-wider still (fewest v d (f .is-labelled) .holds)) in
-            let whole = found-on a i (also-same settled v (a .from) from) first (rw (to, sum) low) in
-            rw is (rw (to, sum) at whole)
+        go (inr (g, is)) =
+            let before = found-wider still (fewest v d (f .is-labelled) .holds) in
+            let at-start : PathFound p C (λ w. also settled v w ≡ true) (g .arc .from) d (depth v) = rw (g .from) before in
+            let whole = found-on (g .arc) (g .is-arc) (also-same settled v (g .arc .from) (g .from)) at-start (rw (g .to, g .sum) (g .within)) in
+            rw is (rw (g .to, g .sum) at whole)
 
 -- ---- A goal is the first open place
 

@@ -17,7 +17,7 @@ use Rattle.model.proofs.Lists.{neither}
 use Rattle.model.proofs.Relaxing.{weaken}
 use Rattle.model.proofs.LeastCosts.{entry-below, table-least}
 use Rattle.model.proofs.Keys.{NotBefore}
-use Rattle.query.specs.Front.{Before, Front, FirstOpen, Expanded, also}
+use Rattle.query.specs.Front.{Before, Front, FirstOpen, Gives, Expanded, also}
 
 pub not-both : {b : Bool} → b ≡ true → b ≡ false → ⊥
 not-both p q = false≢true (sym q ∙ p)
@@ -171,13 +171,12 @@ module _ (p : Problem) (ok : Valid p) (C : ℕ) (label : ℕ → Option ℕ) (se
     old-or-new : (w y : ℕ) → after w ≡ some y → (label w ≡ some y) ⊎ ((d < y) × PathWithin p C w y)
     old-or-new w y e = go (x .sound w y e)
       where
-        go : (label w ≡ some y) ⊎ ((a : Arc) × IsArc p a × (a .from ≡ v) × (a .to ≡ w) × (d + a .cost ≡ y) × (y + p .estimate w ≤ C))
-            → (label w ≡ some y) ⊎ ((d < y) × PathWithin p C w y)
+        go : (label w ≡ some y) ⊎ Gives p C v d w y → (label w ≡ some y) ⊎ ((d < y) × PathWithin p C w y)
         go (inl q) = inl q
-        go (inr (a, i, from, to, sum, low)) =
-            let first : PathWithin p C (a .from) d = rw from (front .backed v d (f .is-labelled)) in
-            let whole = path-on a i first (rw (to, sum) low) in
-            inr (omega (arith, ok .cost-above a i), rw (to, sum) at whole)
+        go (inr g) =
+            let first : PathWithin p C (g .arc .from) d = rw (g .from) (front .backed v d (f .is-labelled)) in
+            let whole = path-on (g .arc) (g .is-arc) first (rw (g .to, g .sum) (g .within)) in
+            inr (omega (arith, ok .cost-above (g .arc) (g .is-arc), g .sum), rw (g .to, g .sum) at whole)
 
     pub keeps-label : (u y : ℕ) → also settled v u ≡ true → label u ≡ some y → after u ≡ some y
     keeps-label u y s e = go (old-or-new u (m .cost) (m .is))

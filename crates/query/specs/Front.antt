@@ -55,12 +55,20 @@ pub record FirstOpen (label : ℕ → Option ℕ) (settled : ℕ → Bool) (v d 
 abbrev pub NoneOpen : (label : ℕ → Option ℕ) (settled : ℕ → Bool) → Type 0
 NoneOpen label settled = (w y : ℕ) → label w ≡ some y → settled w ≡ true
 
+-- an arc of v, labelled d, gives w the cost y within C
+pub record Gives (p : Problem) (C v d w y : ℕ) : Type 0 where
+  pub arc : Arc
+  pub is-arc : IsArc p arc
+  pub from : arc .from ≡ v
+  pub to : arc .to ≡ w
+  pub sum : d + arc .cost ≡ y
+  pub within : y + p .estimate w ≤ C
+
 -- the arcs of v, labelled d, have been relaxed: labels only fall, to what an arc of v gives within C
 pub record Expanded (p : Problem) (C v d : ℕ) (before after : ℕ → Option ℕ) : Type 0 where
   pub kept : (w y : ℕ) → AtMost (before w) y → AtMost (after w) y
   pub reached : (a : Arc) → IsArc p a → a .from ≡ v → d + a .cost + p .estimate (a .to) ≤ C → AtMost (after (a .to)) (d + a .cost)
-  pub sound : (w y : ℕ) → after w ≡ some y
-      → (before w ≡ some y) ⊎ ((a : Arc) × IsArc p a × (a .from ≡ v) × (a .to ≡ w) × (d + a .cost ≡ y) × (y + p .estimate w ≤ C))
+  pub sound : (w y : ℕ) → after w ≡ some y → (before w ≡ some y) ⊎ Gives p C v d w y
 
 -- and so have the depths, where an arc of v makes k arcs from the start: a place's label with its depth is no more than it was and no more than
 -- what an arc of v gives, and is one of these
@@ -69,8 +77,7 @@ pub record Deepened (p : Problem) (C v d k : ℕ) (before : ℕ → Option ℕ) 
   pub reached : (a : Arc) (y : ℕ) → IsArc p a → a .from ≡ v → d + a .cost + p .estimate (a .to) ≤ C → after (a .to) ≡ some y
       → NoMore y (depth (a .to)) (d + a .cost) k
   pub sound : (w y : ℕ) → after w ≡ some y
-      → ((before w ≡ some y) × (depth w ≡ depth₀ w))
-      ⊎ ((a : Arc) × IsArc p a × (a .from ≡ v) × (a .to ≡ w) × (d + a .cost ≡ y) × (y + p .estimate w ≤ C) × (depth w ≡ k))
+      → ((before w ≡ some y) × (depth w ≡ depth₀ w)) ⊎ (Gives p C v d w y × (depth w ≡ k))
 
 unfoldable pub also : (ℕ → Bool) → ℕ → ℕ → Bool
 also settled v u = settled u || eqb u v

@@ -25,7 +25,7 @@ use Rattle.layout.specs.Labels.{noWord, wordOr, labels, depths, Labelled, Kept,
 use Rattle.layout.proofs.Held.{map-word, rows-same, map-room, has-place}
 use Rattle.layout.proofs.Rows.{row-begins, row-goes-on, row-ends, next-arc, passed-start, passed-end, passed-step}
 use Rattle.layout.proofs.Labels.{wordOr-none, wordOr-some, label-at, label-is, unlabelled, depth-at}
-use Rattle.layout.proofs.Labels.{kept-all, kept-on, label-words-kept, labels-kept, labelled-kept, depths-kept, depth-kept}
+use Rattle.layout.proofs.Labels.{kept-all, kept-on, labels-kept, labelled-kept, depths-kept, depth-kept}
 use Rattle.layout.proofs.Labels.{with-parent-kept, with-parent-same, with-parent-other, parent-word}
 use Rattle.scans.specs.Area.{Recorded, parentFrom, HasParents}
 use Rattle.scans.specs.Scans.{parentStored, ParentsOver, ParentsRow, ParentsBelow, Parenting, ParentsUpTo}
@@ -294,7 +294,6 @@ all-rows s u w₀ w₁ w k v h =
     let all : ParentsBelow n n w₀ w = rw end at (parents-on n u w₀ w₁ w k (v .so-far)) in
     let room : arcsAt n ≤ length w = omega (arith, map-room s w₁ (v .recorded .labelled .holds), v .so-far .kept .same-length) in
     record {
-      same-labels = label-words-kept n w₀ w (all .kept);
       same-map = all .kept .same-map;
       parents = λ p l. sym (parent-word n p w (omega arith)) ∙ all .so-far .lowest p l;
     }

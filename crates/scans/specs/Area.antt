@@ -1,11 +1,11 @@
--- What the passes over the arcs of labelled places ask of the work area and leave in it.
+-- What the passes over what a search has recorded ask of the work area and leave in it.
 use mathlib.Core.Path.{_≡_}
 use mathlib.Core.Bool.{cond}
 use mathlib.Core.List.{List}
 use mathlib.Core.Option.{Option, none, some}
 use Prim.Native.Nat.{ℕ, _+_, _^_, _≤_, _<_}
 use lib.Dec.{eqb}
-use lib.ListN.{getD, take, drop}
+use lib.ListN.{getD, drop}
 use Rattle.model.specs.Lists.{filterMap, least}
 use Rattle.model.specs.Problem.{Arc, IsGoal}
 use Rattle.model.specs.Costs.{Table, costAt}
@@ -35,9 +35,8 @@ pub record Recorded (s : Site) (w : List ℕ) : Type 0 where
 unfoldable pub parentFrom : Table → List ℕ → ℕ → Arc → Option ℕ
 parentFrom t ks v a = cond (eqb (getD ks (a .from) 0 + 1) (getD ks v 0)) (parentBy a v (costAt t (a .from)) (costAt t v)) none
 
--- Each place's parent is the lowest-numbered of these; labels and map are as before.
+-- Each place's parent is the lowest-numbered of these; the map is as before.
 pub record HasParents (s : Site) (w₀ w : List ℕ) : Type 0 where
-  pub same-labels : take (s .places) w ≡ take (s .places) w₀
   pub same-map : drop (endsAt (s .places)) w ≡ drop (endsAt (s .places)) w₀
   pub parents : (v : ℕ) → v < s .places → parentAt (s .places) w v
       ≡ least (filterMap (parentFrom (labels (s .places) w₀) (depths (s .places) w₀) v) (problemAt s w₀ .arcs))

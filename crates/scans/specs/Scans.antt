@@ -1,4 +1,4 @@
--- What the passes over the arcs of labelled places keep while under way.
+-- What the passes over what a search has recorded keep while under way.
 use mathlib.Core.Path.{_≡_}
 use mathlib.Core.Bool.{Bool, cond, not, _&&_}
 use mathlib.Core.List.{List, [], _++_}

@@ -10,13 +10,13 @@ use lib.Dec.{eqb}
 use lib.ListN.{length, getD, drop}
 use borrow.Author.Tests.{eqb-true, eq-eqb}
 use Rattle.map.specs.declared.Site.{Site}
-use Rattle.layout.specs.Regions.{endsAt, labelWord, depthWord}
+use Rattle.layout.specs.Regions.{endsAt}
 use Rattle.layout.specs.Map.{problemAt}
 use Rattle.layout.specs.Labels.{labels, depths, parentAt, Follows, first, after}
 use Rattle.layout.proofs.Held.{problem-same}
 use Rattle.layout.proofs.Labels.{HasLabel, label-is, is-label, depth-at}
 use Rattle.model.specs.Lists.{filterMap, least}
-use Rattle.model.specs.Problem.{Problem, Arc, IsArc, IsGoal, Valid}
+use Rattle.model.specs.Problem.{Problem, Arc, IsGoal, Valid}
 use Rattle.model.specs.Costs.{Table, costAt, table}
 use Rattle.model.specs.Query.{Key, firstGoal}
 use Rattle.model.specs.Routes.{parentBy, parent, extend, routeUpTo, routeTo, leastPaths, routeToFirst, firstRoute}
@@ -197,10 +197,13 @@ follows-route s C found goal w₀ w₁ w ok same room f h nearest =
     is-goal = subst (λ (x : Problem). IsGoal x goal) map (nearest .is-goal)
 
     own : HasLabel n w₁ found (f .cost)
-    own = label-is n w₁ room found (f .cost) (f .agrees .entry-label found (f .cost) (first-goal-some p (table p C) g (f .is-first) .entry) (le-refl _))
+    own =
+        let entry = first-goal-some p (table p C) g (f .is-first) .entry in
+        label-is n w₁ room found (f .cost) (f .agrees .entry-label found (f .cost) entry (le-refl (f .cost)))
 
     at-cost : costAt (labels n w₁) goal ≡ some (f .cost)
     at-cost = is-label n w₁ room goal (f .cost) (record { place = ok .goal-below goal is-goal; word = nearest .label ∙ own .word; some = own .some })
 
-    deep : (v d : ℕ) → costAt (labels n w₁) v ≡ some d → d ≤ f .cost → costAt (table (leastPaths p (table p C) (f .cost)) (f .cost)) v ≡ some (getD (depths n w₁) v 0)
+    deep : (v d : ℕ) → costAt (labels n w₁) v ≡ some d → d ≤ f .cost
+        → costAt (table (leastPaths p (table p C) (f .cost)) (f .cost)) v ≡ some (getD (depths n w₁) v 0)
     deep v d l h = rw (depth-at n w₁ v (label-is n w₁ room v d l .place)) (f .depths v d l h)
