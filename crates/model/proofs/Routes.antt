@@ -13,7 +13,7 @@ use lib.ListN.{length, length-append}
 use borrow.Author.Tests.{eqb-true, eq-eqb}
 use Rattle.model.specs.Lists.{filterMap}
 use Rattle.model.specs.Problem.{Problem, Arc, IsArc, Valid}
-use Rattle.model.specs.Paths.{Least, Walk, stay, on, places, PathTo, Route, Within, RouteWithin, Fewest, FirstBack, First, FirstCheapest}
+use Rattle.model.specs.Paths.{Least, Walk, stay, on, places, PathTo, Route, Within, RouteWithin, FirstBack, First, FirstCheapest}
 use Rattle.model.specs.Costs.{Table, costAt, table}
 use Rattle.model.specs.Query.{Key, firstGoal}
 use Rattle.model.specs.Routes.{parentBy, parent, extend, routeUpTo, routeTo}

@@ -11,13 +11,13 @@ use Rattle.model.specs.Problem.{Problem, Arc, IsArc, IsGoal, Valid}
 use Rattle.model.specs.Paths.{Walk, stay, on, arcCount, PathTo, Within, PathWithin}
 use Rattle.model.specs.Costs.{costAt, table}
 use Rattle.model.specs.Routes.{leastPaths}
-use Rattle.model.specs.Terms.{NoMore}
-use Rattle.model.proofs.Relaxing.{arcs-cost}
+use Rattle.model.specs.Terms.{AtMost, NoMore}
+use Rattle.model.proofs.Relaxing.{weaken, arcs-cost}
 use Rattle.model.proofs.LeastCosts.{entry-below, entry-path, start-below, table-least}
 use Rattle.model.proofs.Routes.{before-least}
 use Rattle.model.proofs.LeastPaths.{LeastPath, count-within, least-paths-valid, counted-least, least-counted}
 use Rattle.query.specs.Front.{Front, Through, PathFound, FewestFound, FirstOpen, Gives, Expanded, Deepened, also}
-use Rattle.query.proofs.Settling.{also-true, also-same, also-still, old-label, still-labelled, path-after}
+use Rattle.query.proofs.Settling.{also-true, also-same, also-still, old-label, still-labelled, expand-relaxed, path-after}
 use Rattle.query.proofs.Front.{first-open-least}
 
 -- the order is transitive
@@ -53,9 +53,24 @@ module _ {p : Problem} {E F : ℕ → Type 0} (wider : (u : ℕ) → E u → F u
 -- which places are expanded may be told in other words
 pub fewest-same : {p : Problem} {C : ℕ} {E F : ℕ → Type 0} {label : ℕ → Option ℕ} {depth : ℕ → ℕ} → ((u : ℕ) → E u → F u) → ((u : ℕ) → F u → E u)
     → FewestFound p C E label depth → FewestFound p C F label depth
-fewest-same to from f v d e =
-    let l = f v d e in
-    record { holds = found-wider to (l .holds); least = λ k g. l .least k (found-wider from g) }
+fewest-same to from f =
+    record {
+      cost = λ v d k g. f .cost v d k (found-wider from g);
+      arcs = λ v d e.
+          let l = f .arcs v d e in
+          record { holds = found-wider to (l .holds); least = λ k g. l .least k (found-wider from g) };
+    }
+
+-- Where each arc of an expanded place gives its end no less than its label, no path found gives less.
+module _ (p : Problem) (C : ℕ) (E : ℕ → Type 0) (label : ℕ → Option ℕ) (begins : AtMost (label (p .start)) 0)
+    (relaxed : (a : Arc) (z : ℕ) → IsArc p a → E (a .from) → label (a .from) ≡ some z → z + a .cost + p .estimate (a .to) ≤ C
+    → AtMost (label (a .to)) (z + a .cost)) where
+  found-labelled : {v d : ℕ} (w : PathTo p v d) → Within C w → Through E w → AtMost (label v) d
+  unfolding Within Through
+  found-labelled stay i t = begins
+  found-labelled (on {d = d} a j w) i t =
+      let m = found-labelled w (i .0) (t .0) in
+      weaken (omega (arith, m .below)) (relaxed a (m .cost) j (t .1) (m .is) (omega (arith, i .1, m .below)))
 
 -- no place's label and depth are more than an arc of an expanded place gives it
 abbrev PassedOn : Problem → (C : ℕ) (E : ℕ → Type 0) (label : ℕ → Option ℕ) (depth : ℕ → ℕ) → Type 0
@@ -63,7 +78,7 @@ PassedOn p C E label depth =
     (a : Arc) (z y : ℕ) → IsArc p a → E (a .from) → label (a .from) ≡ some z → z + a .cost + p .estimate (a .to) ≤ C
     → label (a .to) ≡ some y → NoMore y (depth (a .to)) (z + a .cost) (depth (a .from) + 1)
 
--- then they are not more than what a path found gives it
+-- then they are no more than what a path found gives it
 module _ (p : Problem) (C : ℕ) (E : ℕ → Type 0) (label : ℕ → Option ℕ) (depth : ℕ → ℕ)
     (begins : (y : ℕ) → label (p .start) ≡ some y → NoMore y (depth (p .start)) 0 0)
     (labelled : (u : ℕ) → E u → (z : ℕ) × (label u ≡ some z)) (passed-on : PassedOn p C E label depth) where
@@ -89,12 +104,12 @@ module _ (p : Problem) (ok : Valid p) (C : ℕ) (label : ℕ → Option ℕ) (de
   passed-on a z y i s l h e =
       record {
         first = entry-below e (front .relaxed a z i s l h);
-        second = λ q. fewest (a .to) y e .least (depth (a .from) + 1) (rw q (found-on a i s (fewest (a .from) z l .holds) h));
+        second = λ q. fewest .arcs (a .to) y e .least (depth (a .from) + 1) (rw q (found-on a i s (fewest .arcs (a .from) z l .holds) h));
       }
 
   -- no record has more arcs than it costs
   pub depth-at-most : (v d : ℕ) → label v ≡ some d → depth v ≤ d
-  depth-at-most v d e = let f = fewest v d e .holds in omega (arith, f .arcs, arcs-cost p ok C (f .path))
+  depth-at-most v d e = let f = fewest .arcs v d e .holds in omega (arith, f .arcs, arcs-cost p ok C (f .path))
 
   module _ (v d : ℕ) (f : FirstOpen label settled v d) (after : ℕ → Option ℕ) (depth′ : ℕ → ℕ) (x : Expanded p C v d label after)
       (deep : Deepened p C v d (depth v + 1) label depth after depth′) where
@@ -128,17 +143,25 @@ module _ (p : Problem) (ok : Valid p) (C : ℕ) (label : ℕ → Option ℕ) (de
         let b = front .begins in
         let at-0 : label (p .start) ≡ some 0 = b .is ∙ ap some (omega (arith, b .below)) in
         let within = start-below (front .backed (p .start) 0 at-0) in
-        let none = fewest (p .start) 0 at-0 .least 0 (record { path = stay; within = within; through = tt; arcs = refl }) in
+        let none = fewest .arcs (p .start) 0 at-0 .least 0 (record { path = stay; within = within; through = tt; arcs = refl }) in
         let kept = deep .kept (p .start) 0 y at-0 e in
         record { first = kept .first; second = λ q. omega (arith, kept .second q) }
 
     pub next-fewest : FewestFound p C (λ u. also settled v u ≡ true) after depth′
-    next-fewest u y e =
+    next-fewest =
         record {
-          holds = go (deep .sound u y e);
-          least = λ k g. rw (g .arcs) at (no-less (g .path) (g .within) (g .through) y e .second refl);
+          cost = λ u y k g. found-labelled p C (λ w. also settled v w ≡ true) after (x .kept (p .start) 0 (front .begins)) relaxed
+              (g .path) (g .within) (g .through);
+          arcs = λ u y e. record {
+            holds = go u y (deep .sound u y e);
+            least = λ k g. rw (g .arcs) at (no-less (g .path) (g .within) (g .through) y e .second refl);
+          };
         }
       where
+        relaxed : (a : Arc) (z : ℕ) → IsArc p a → also settled v (a .from) ≡ true → after (a .from) ≡ some z
+            → z + a .cost + p .estimate (a .to) ≤ C → AtMost (after (a .to)) (z + a .cost)
+        relaxed = expand-relaxed p ok C label settled front v d f after x
+
         still : (w : ℕ) → settled w ≡ true → also settled v w ≡ true
         still w s = also-still settled v w s
 
@@ -149,11 +172,11 @@ module _ (p : Problem) (ok : Valid p) (C : ℕ) (label : ℕ → Option ℕ) (de
             → NoMore y (depth′ w) z (arcCount path)
         no-less = found-no-less p C (λ u. also settled v u ≡ true) after depth′ begins-next labelled passed-on-next
 
-        go : ((label u ≡ some y) × (depth′ u ≡ depth u)) ⊎ (Gives p C v d u y × (depth′ u ≡ depth v + 1))
-            → PathFound p C (λ u. also settled v u ≡ true) u y (depth′ u)
-        go (inl (old, same)) = rw same (found-wider still (fewest u y old .holds))
-        go (inr (g, is)) =
-            let before = found-wider still (fewest v d (f .is-labelled) .holds) in
+        go : (u y : ℕ) → ((label u ≡ some y) × (depth′ u ≡ depth u)) ⊎ (Gives p C v d u y × (depth′ u ≡ depth v + 1))
+            → PathFound p C (λ w. also settled v w ≡ true) u y (depth′ u)
+        go u y (inl (old, same)) = rw same (found-wider still (fewest .arcs u y old .holds))
+        go u y (inr (g, is)) =
+            let before = found-wider still (fewest .arcs v d (f .is-labelled) .holds) in
             let at-start : PathFound p C (λ w. also settled v w ≡ true) (g .arc .from) d (depth v) = rw (g .from) before in
             let whole = found-on (g .arc) (g .is-arc) (also-same settled v (g .arc .from) (g .from)) at-start (rw (g .to, g .sum) (g .within)) in
             rw is (rw (g .to, g .sum) at whole)
@@ -180,7 +203,7 @@ module _ (p : Problem) (ok : Valid p) (C : ℕ) (label : ℕ → Option ℕ) (de
   pub depth-entry : (v d : ℕ) → label v ≡ some d → d ≤ c → costAt (table p C) v ≡ some d
       → costAt (table (leastPaths p (table p C) c) c) v ≡ some (depth v)
   depth-entry v d l h e =
-      let found = fewest v d l .holds in
+      let found = fewest .arcs v d l .holds in
       let counted = least-counted p ok C c (found .path) (found .within) e in
       let few : arcCount (found .path) ≤ c = omega (arith, arcs-cost p ok C (found .path)) in
       let holds : PathWithin (leastPaths p (table p C) c) c v (arcCount (found .path)) =
@@ -194,7 +217,7 @@ module _ (p : Problem) (ok : Valid p) (C : ℕ) (label : ℕ → Option ℕ) (de
             let path = counted-least p ok C c start (w .path) in
             let same : path .cost ≡ d = cc (path .entry) in
             let through = least-through (path .path) (path .within) (path .entry) (omega arith) in
-            fewest v d l .least k (rw same at (found-of path through));
+            fewest .arcs v d l .least k (rw same at (found-of path through));
       })
     where
       found-of : {k : ℕ} {r : List ℕ} (x : LeastPath p C v k r) → Through (λ u. settled u ≡ true) (x .path)

@@ -20,12 +20,13 @@ use Rattle.layout.specs.Labels.{noWord, labels}
 use Rattle.layout.proofs.Held.{problem-same, holds-same, few-places, map-room, goal-mark, mark-goal}
 use Rattle.layout.proofs.Labels.{HasLabel, label-is, is-label}
 use Rattle.model.specs.Problem.{IsGoal}
-use Rattle.model.specs.Paths.{Least, stay, arcCount, Within}
+use Rattle.model.specs.Paths.{stay, on, arcCount, PathTo, Within}
 use Rattle.model.specs.Costs.{costAt}
+use Rattle.model.specs.Terms.{AtMost}
 use Rattle.model.proofs.Lists.{not-true-false}
 use Rattle.model.proofs.LeastCosts.{end-below}
 use Rattle.scans.specs.Area.{Listed}
-use Rattle.query.specs.Front.{Through, PathFound, FirstOpen, NoneOpen}
+use Rattle.query.specs.Front.{Through, FewestFound, FirstOpen, NoneOpen}
 use Rattle.query.specs.Open.{openWords, keys, settledAt}
 use Rattle.query.specs.Query.{Askable}
 use Rattle.query.specs.State.{HasRegions, Clears, Blank, Arrives, Arrived, Searching}
@@ -130,14 +131,23 @@ module _ (s : Site) where
         go l (no q) = absurd (l .some (omega (arith, l .word, other-label v (l .place) q)))
 
     -- the start, with no arcs, is all that is found
-    fewest-start : Askable s limit w → (v d : ℕ) → v ≡ s .start → d ≡ 0
-        → Least (PathFound (problemAt s w) limit (λ u. settledAt n hand w u ≡ true) v d) (depthWord n w v)
+    fewest-start : Askable s limit w → costAt (labels n w) (s .start) ≡ some 0
+        → FewestFound (problemAt s w) limit (λ u. settledAt n hand w u ≡ true) (λ u. costAt (labels n w) u) (depthWord n w)
     unfolding problemAt Within Through arcCount
-    fewest-start again v d p q =
-        rw (p, q, a .depth) (record {
-          holds = record { path = stay; within = again .start-within; through = tt; arcs = refl };
-          least = λ k f. omega arith;
-        })
+    fewest-start again label =
+        record {
+          cost = λ v d k f. at-start (f .path) (f .through);
+          arcs = λ v d e.
+              let (p, q) = only-start v d e in
+              rw (p, q, a .depth) (record {
+                holds = record { path = stay; within = again .start-within; through = tt; arcs = refl };
+                least = λ k f. omega arith;
+              });
+        }
+      where
+        at-start : {v d : ℕ} (x : PathTo (problemAt s w) v d) → Through (λ u. settledAt n hand w u ≡ true) x → AtMost (costAt (labels n w) v) d
+        at-start stay t = record { cost = 0; is = label; below = omega arith }
+        at-start (on b i x) t = absurd (not-both (t .1) (none-settled (b .from)))
 
     pub searching-starts : (budget left : ℕ) → Searching s limit budget left w hand w 0
     unfolding problemAt
@@ -152,7 +162,7 @@ module _ (s : Site) where
           same-length = refl;
           coherent = still-coherent key-set;
           front = rw none (begin-front (problemAt s w) limit labelled (again .holds .valid) (again .start-within) label only-start);
-          fewest = λ v d e. let o = only-start v d e in fewest-start again v d (o .0) (o .1);
+          fewest = fewest-start again label;
           counted = rw none (count-none n);
           listed = record { few = omega arith; each = λ i l. absurd (omega arith); all = λ v t. absurd (not-both t (none-settled v)) };
           in-budget = omega arith;

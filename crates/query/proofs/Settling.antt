@@ -200,7 +200,7 @@ module _ (p : Problem) (ok : Valid p) (C : ℕ) (label : ℕ → Option ℕ) (se
     pub still-labelled : (u : ℕ) → also settled v u ≡ true → (y : ℕ) × (after u ≡ some y)
     still-labelled u s = let l = also-labelled u s in (l .cost, keeps-label u (l .cost) s (l .is))
 
-    expand-relaxed : (a : Arc) (y : ℕ) → IsArc p a → also settled v (a .from) ≡ true → after (a .from) ≡ some y
+    pub expand-relaxed : (a : Arc) (y : ℕ) → IsArc p a → also settled v (a .from) ≡ true → after (a .from) ≡ some y
         → y + a .cost + p .estimate (a .to) ≤ C → AtMost (after (a .to)) (y + a .cost)
     expand-relaxed a y i s e h = go (also-true settled v (a .from) s) (old-label (a .from) y s e .1)
       where

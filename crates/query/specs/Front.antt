@@ -32,17 +32,20 @@ unfoldable pub Through : {p : Problem} (E : ℕ → Type 0) {u v d : ℕ} → Wa
 Through E stay = Unit {0}
 Through E (on a i w) = Through E w × E (a .from)
 
--- a path found to v, of cost d and with k arcs: it is within C, and its places before the last have all been expanded
-pub record PathFound (p : Problem) (C : ℕ) (Expanded : ℕ → Type 0) (v d k : ℕ) : Type 0 where
+-- a path found to v, of cost d and with k arcs: it is within C, and its places before the last have all been expanded, which are those of E
+pub record PathFound (p : Problem) (C : ℕ) (E : ℕ → Type 0) (v d k : ℕ) : Type 0 where
   pub path : PathTo p v d
   pub within : Within C path
-  pub through : Through Expanded path
+  pub through : Through E path
   pub arcs : arcCount path ≡ k
 
 -- Document 02, paper 2: "Each place's search record therefore carries the number of arcs so far, and after every expansion in a query it is the
--- fewest over the paths found there at the record's cost." The record's cost is a label, its arcs so far a depth.
-abbrev pub FewestFound : Problem → (C : ℕ) (Expanded : ℕ → Type 0) (label : ℕ → Option ℕ) (depth : ℕ → ℕ) → Type 0
-FewestFound p C Expanded label depth = (v d : ℕ) → label v ≡ some d → Least (PathFound p C Expanded v d) (depth v)
+-- fewest over the paths found there at the record's cost." The record's cost is a label, and its arcs so far a depth.
+pub record FewestFound (p : Problem) (C : ℕ) (E : ℕ → Type 0) (label : ℕ → Option ℕ) (depth : ℕ → ℕ) : Type 0 where
+  -- no path found to a place costs less than its label
+  pub cost : (v d k : ℕ) → PathFound p C E v d k → AtMost (label v) d
+  -- and of those that cost as much the depth is the fewest arcs
+  pub arcs : (v d : ℕ) → label v ≡ some d → Least (PathFound p C E v d) (depth v)
 
 -- v, labelled d, is the first of the open places: labelled and not settled
 pub record FirstOpen (label : ℕ → Option ℕ) (settled : ℕ → Bool) (v d : ℕ) : Type 0 where

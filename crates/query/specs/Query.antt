@@ -71,8 +71,8 @@ abbrev pub IsExpanded : (n count : ℕ) (w : List ℕ) → ℕ → Type 0
 IsExpanded n count w v = (i : ℕ) × (i < count) × (listedAt n w i ≡ v)
 
 -- The query's outcome and cost are the definition's, unless it costs more than is left; where it is cut, it has counted what was left. The
--- map is as before, and the open list is ready for the next query. After so many expansions as it has counted, whatever its budget and what was
--- left, each place's depth is the fewest arcs over the paths found.
+-- map is as before, and the open list is ready for the next query. After as many expansions as it has counted, whatever its budget and what was
+-- left, each label is the least cost of a path found and each depth the fewest arcs at that cost.
 pub record Answered (s : Site) (limit budget left : ℕ) (w₀ w : List ℕ) (r : Asked) : Type 0 where
   pub same-map : drop (endsAt (s .places)) w ≡ drop (endsAt (s .places)) w₀
   pub ready : Ready (s .places) w

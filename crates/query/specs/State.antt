@@ -151,8 +151,8 @@ pub record Expanding (n limit u d end k hand₀ : ℕ) (w₀ : List ℕ) (hand :
   pub one-more : k ≡ depthWord n w₀ u + 1
   pub relaxed : Relaxed n (ByArcs n limit d u j w₀) k hand₀ w₀ hand w
 
--- the loop of `query`, as it begins and after every expansion: a uniform-cost search is under way, the settled places are listed, and each
--- place's depth is the fewest arcs over the paths found
+-- the loop of `query`, as it begins and after every expansion: a uniform-cost search is under way, each depth is the fewest arcs over the paths
+-- found at the label's cost, and the settled places are listed
 pub record Searching (s : Site) (limit budget left : ℕ) (w₀ : List ℕ) (hand : ℕ) (w : List ℕ) (count : ℕ) : Type 0 where
   pub same-map : drop (endsAt (s .places)) w ≡ drop (endsAt (s .places)) w₀
   pub same-length : length w ≡ length w₀
