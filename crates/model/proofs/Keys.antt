@@ -15,7 +15,7 @@ use Rattle.model.specs.Lists.{filter, consIf, member}
 use Rattle.model.specs.Problem.{Problem, IsGoal}
 use Rattle.model.specs.Costs.{Table, costAt}
 use Rattle.model.specs.Query.{Key, precedes, keyOf, keysFrom, within, firstGoal, lengthTo}
-use Rattle.model.specs.Terms.{IsWithin}
+use Rattle.model.specs.Terms.{NoMore, IsWithin}
 use Rattle.model.proofs.Lists.{none-some, neither, both, filter-member, filter-length, leastBy-none, leastBy-member, leastBy-least}
 use Rattle.model.proofs.Lists.{member-true, member-length, consIf-member, consIf-length}
 
@@ -29,24 +29,34 @@ pub record IsFirstGoal (p : Problem) (t : Table) (g : Key) : Type 0 where
 abbrev pub key : ℕ → ℕ → Key
 key d v = record { cost = d; place = v }
 
--- Key j does not come before k: it costs more, or the same and its place's number is no lower.
-pub record NotBefore (j k : Key) : Type 0 where
-  pub costs : k .cost ≤ j .cost
-  pub places : j .cost ≡ k .cost → k .place ≤ j .place
+-- by two numbers: the order is transitive
+pub no-more-on : {a b c d e f : ℕ} → NoMore a b c d → NoMore c d e f → NoMore a b e f
+no-more-on {a} {c = c} {e = e} x y =
+    record {
+      first = omega (arith, x .first, y .first);
+      second = λ q.
+          let low : a ≡ c = omega (arith, x .first, y .first) in
+          let high : c ≡ e = omega arith in
+          omega (arith, x .second low, y .second high);
+    }
+
+-- Key j does not come before k: k is no more than it, by cost, then by number.
+abbrev pub NotBefore : (j k : Key) → Type 0
+NotBefore j k = NoMore (k .cost) (k .place) (j .cost) (j .place)
 
 pub precedes-false : (j k : Key) → precedes j k ≡ false → NotBefore j k
 unfolding precedes
 precedes-false j k e =
     let parts = neither (ltb (j .cost) (k .cost)) (eqb (j .cost) (k .cost) && ltb (j .place) (k .place)) e in
-    record { costs = ltb-false _ _ (parts .0); places = λ p. ltb-false _ _ (rw (eq-eqb (j .cost) (k .cost) p) at (parts .1)) }
+    record { first = ltb-false _ _ (parts .0); second = λ p. ltb-false _ _ (rw (eq-eqb (j .cost) (k .cost) (sym p)) at (parts .1)) }
 
 pub not-precedes : (j k : Key) → NotBefore j k → precedes j k ≡ false
 unfolding precedes
 not-precedes j k h = go (ℕ-discrete (j .cost) (k .cost))
   where
     go : Dec (j .cost ≡ k .cost) → ltb (j .cost) (k .cost) || (eqb (j .cost) (k .cost) && ltb (j .place) (k .place)) ≡ false
-    go (yes p) = rw (le-ltb (j .cost) (k .cost) (h .costs), eq-eqb (j .cost) (k .cost) p, le-ltb (j .place) (k .place) (h .places p))
-    go (no p) = rw (le-ltb (j .cost) (k .cost) (h .costs), ne-eqb (j .cost) (k .cost) p)
+    go (yes p) = rw (le-ltb (j .cost) (k .cost) (h .first), eq-eqb (j .cost) (k .cost) p, le-ltb (j .place) (k .place) (h .second (sym p)))
+    go (no p) = rw (le-ltb (j .cost) (k .cost) (h .first), ne-eqb (j .cost) (k .cost) p)
 
 -- at most one of two keys comes before the other
 pub precedes-true : (j k : Key) → precedes j k ≡ true → NotBefore k j
@@ -56,12 +66,12 @@ precedes-true j k e = go (ltb (j .cost) (k .cost)) refl e
     go : (b : Bool) → ltb (j .cost) (k .cost) ≡ b → b || (eqb (j .cost) (k .cost) && ltb (j .place) (k .place)) ≡ true → NotBefore k j
     go true q h =
         let less = ltb-true (j .cost) (k .cost) q in
-        record { costs = omega arith; places = λ p. omega arith }
+        record { first = omega arith; second = λ p. omega arith }
     go false q h =
         let tie = both (eqb (j .cost) (k .cost)) (ltb (j .place) (k .place)) h in
         let same = eqb-true (j .cost) (k .cost) (tie .0) in
         let lower = ltb-true (j .place) (k .place) (tie .1) in
-        record { costs = omega arith; places = λ p. omega arith }
+        record { first = omega arith; second = λ p. omega arith }
 
 keyOf-some : (v : ℕ) (e : Option ℕ) (k : Key) → (keyOf v e ≡ some k) ↔ ((k .place ≡ v) × (e ≡ some (k .cost)))
 unfolding keyOf
@@ -175,16 +185,13 @@ unfolding firstGoal
 first-goal-least p t g k e i = precedes-false k g (leastBy-least precedes trans asym irrefl (goalKeys p t) g e k i)
   where
     trans : (a b c : Key) → precedes a b ≡ false → precedes b c ≡ false → precedes a c ≡ false
-    trans a b c h k =
-        let ab = precedes-false a b h in
-        let bc = precedes-false b c k in
-        not-precedes a c (record { costs = omega arith; places = λ q. omega (arith, ab .places (omega arith), bc .places (omega arith)) })
+    trans a b c h k = not-precedes a c (no-more-on (precedes-false b c k) (precedes-false a b h))
 
     asym : (a b : Key) → precedes a b ≡ true → precedes b a ≡ false
     asym a b h = not-precedes b a (precedes-true a b h)
 
     irrefl : (a : Key) → precedes a a ≡ false
-    irrefl a = not-precedes a a (record { costs = omega arith; places = λ q. omega arith })
+    irrefl a = not-precedes a a (record { first = omega arith; second = λ q. omega arith })
 
 pub first-goal-none : (p : Problem) (t : Table) → firstGoal p t ≡ none → (g : ℕ) → IsGoal p g → IsWithin t g → ⊥
 unfolding firstGoal
@@ -196,7 +203,7 @@ pub first-goal-some : (p : Problem) (t : Table) (g : Key) → firstGoal p t ≡ 
 unfolding firstGoal
 first-goal-some p t g e =
     let own = goal-key p t g .0 (leastBy-member precedes (goalKeys p t) g e) in
-    record { is-goal = own .0; entry = own .1; cheapest = λ h d i q. low h d i q .costs; lowest = λ h i q. low h (g .cost) i q .places refl }
+    record { is-goal = own .0; entry = own .1; cheapest = λ h d i q. low h d i q .first; lowest = λ h i q. low h (g .cost) i q .second refl }
   where
     low : (h d : ℕ) → IsGoal p h → costAt t h ≡ some d → NotBefore (key d h) g
     low h d i q = first-goal-least p t g (key d h) e (goal-key p t (key d h) .1 (i, q))

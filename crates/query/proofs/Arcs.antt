@@ -17,16 +17,28 @@ use Rattle.layout.proofs.Held.{map-word}
 use Rattle.layout.proofs.Labels.{with-depth-rest, with-depth-labels, with-depth-same, with-depth-other}
 use Rattle.layout.proofs.Rows.{row-begins, row-goes-on, row-ends, has-arc, next-arc}
 use Rattle.model.specs.Terms.{NoMore}
+use Rattle.model.proofs.Keys.{no-more-on}
 use Rattle.query.specs.Open.{openWords, keys}
 use Rattle.query.specs.State.{Arrives, Arrived, lessDeep, Coherent, ByArc, ByArcs, Fell, Nearer, Stays, Relaxed, Relaxes}
 use Rattle.query.specs.State.{Expands, RowRelaxed, Expanding}
-use Rattle.query.proofs.Fewest.{no-more-on}
 use Rattle.query.proofs.Regions.{map-same, open-same}
 use Rattle.query.proofs.Coherence.{KeySet, own-key, other-key, still-coherent}
 
 -- a label that an arc may fall below is above no key that its place has
 below-key : {n hand : ℕ} {w : List ℕ} → Coherent n hand w → (v e : ℕ) → v < n → e < labelWord w v → e < noKey → e ≤ getD (keys n hand w) v 0
 below-key c v e h l s = ⊎-elim (λ q. omega arith) (λ q. omega arith) (c .key-label v h)
+
+-- nothing has moved, and nothing was more than the arcs give
+unmoved : {n k hand : ℕ} {By : ℕ → ℕ → Type 0} {w : List ℕ} → Coherent n hand w
+    → ((v e : ℕ) → v < n → By v e → NoMore (labelWord w v) (depthWord n w v) e k) → Relaxed n By k hand w hand w
+unmoved c reached =
+    record {
+      same-length = refl;
+      same-rest = refl;
+      coherent = c;
+      reached = reached;
+      moved = λ u l. inl (record { label = refl; key = refl; depth = inl refl });
+    }
 
 -- what reaching v again at its label's cost does: along fewer arcs, and along no fewer
 module _ (n v k : ℕ) (w : List ℕ) where
@@ -57,21 +69,20 @@ module _ (n hand d x : ℕ) (w : List ℕ) (r : Relaxes n hand d x w) (v c : ℕ
         lowers = record { list = r .coherent .list; place-in = end-in; some = sum-some; below = below-key (r .coherent) v (d + c) end-in l sum-some };
       }
 
+  -- what it gives is its end at cost d + c, within the limit
+  only-end : (limit k : ℕ) (w′ : List ℕ)
+      → (d + c + estimateWord n w v ≤ limit → NoMore (labelWord w′ v) (depthWord n w′ v) (d + c) k)
+      → (u e : ℕ) → u < n → ByArc n limit d x w u e → NoMore (labelWord w′ u) (depthWord n w′ u) e k
+  only-end limit k w′ at-end u e l b =
+      let end : v ≡ u = p ∙ b .ends in
+      let sum : d + c ≡ e = ap (λ (y : ℕ). d + y) q ∙ b .sum in
+      rw (end, sum) at (at-end (rw (end, sum) (b .within)))
+
   -- it leads to a place that has less, or beyond the limit
   pub relax-passes : (limit k : ℕ) → (labelWord w v < d + c) ⊎ (limit < d + c + estimateWord n w v) → Relaxed n (ByArc n limit d x w) k hand w hand w
   relax-passes limit k h =
-      record {
-        same-length = refl;
-        same-rest = refl;
-        coherent = r .coherent;
-        reached = λ u e l b.
-            let end : v ≡ u = p ∙ b .ends in
-            let here = ap (labelWord w) end in
-            let there = ap (estimateWord n w) end in
-            ⊎-elim (λ z. record { first = omega (arith, b .sum); second = λ t. absurd (omega (arith, b .sum)) })
-            (λ z. absurd (omega (arith, b .sum, b .within))) h;
-        moved = λ u l. inl (record { label = refl; key = refl; depth = inl refl });
-      }
+      unmoved (r .coherent) (only-end limit k w (λ within.
+      ⊎-elim (λ z. record { first = omega arith; second = λ t. absurd (omega arith) }) (λ z. absurd (omega arith)) h))
 
   -- it gives the cost that its end has
   module _ (limit k : ℕ) (same : labelWord w v ≡ d + c) (within : d + c + estimateWord n w v ≤ limit) where
@@ -80,18 +91,7 @@ module _ (n hand d x : ℕ) (w : List ℕ) (r : Relaxes n hand d x w) (v c : ℕ
 
     -- along no fewer arcs
     relax-no-fewer : depthWord n w v ≤ k → Relaxed n (ByArc n limit d x w) k hand w hand w
-    relax-no-fewer h =
-        record {
-          same-length = refl;
-          same-rest = refl;
-          coherent = r .coherent;
-          reached = λ u e l b.
-              let end : v ≡ u = p ∙ b .ends in
-              let label = ap (labelWord w) end in
-              let depth = ap (depthWord n w) end in
-              record { first = omega (arith, b .sum); second = λ t. omega arith };
-          moved = λ u l. inl (record { label = refl; key = refl; depth = inl refl });
-        }
+    relax-no-fewer h = unmoved (r .coherent) (only-end limit k w (λ within. record { first = omega arith; second = λ t. h }))
 
     -- along fewer
     module _ (h : k < depthWord n w v) where
@@ -124,11 +124,7 @@ module _ (n hand d x : ℕ) (w : List ℕ) (r : Relaxes n hand d x w) (v c : ℕ
               list = rw list (r .coherent .list);
               key-label = λ u l. ⊎-elim (λ z. inl (key u ∙ z)) (λ z. inr (key u ∙ z ∙ sym (label u l))) (r .coherent .key-label u l);
             };
-            reached = λ u e l b.
-                let end : v ≡ u = p ∙ b .ends in
-                let own = ap (labelWord nearer) end in
-                let deep = ap (depthWord n nearer) end in
-                record { first = omega (arith, label v end-in, b .sum); second = λ t. omega (arith, depth) };
+            reached = only-end limit k nearer (λ within. record { first = omega (arith, label v end-in); second = λ t. omega (arith, depth) });
             moved = λ u l. inl (record { label = label u l; key = key u; depth = go u l (ℕ-discrete u v) });
           }
         where
@@ -163,11 +159,7 @@ module _ (n hand d x : ℕ) (w : List ℕ) (r : Relaxes n hand d x w) (v c : ℕ
           same-length = a .same-length;
           same-rest = a .same-rest;
           coherent = still-coherent key-set;
-          reached = λ u e h b.
-              let end : v ≡ u = p ∙ b .ends in
-              let label = ap (labelWord w′) end in
-              let depth = ap (depthWord n w′) end in
-              record { first = omega (arith, a .label, b .sum); second = λ t. omega (arith, a .depth) };
+          reached = only-end limit k w′ (λ within. record { first = omega (arith, a .label); second = λ t. omega (arith, a .depth) });
           moved = λ u h. go u h (ℕ-discrete u v);
         }
       where
@@ -272,13 +264,7 @@ module _ (s : Site) (limit hand₀ u d : ℕ) (w₀ : List ℕ) (x : Expands s h
       record {
         inside = row-begins s w₀ (x .holds) u j end (x .place) p q;
         one-more = o;
-        relaxed = record {
-          same-length = refl;
-          same-rest = refl;
-          coherent = x .coherent;
-          reached = λ v e h b. absurd (omega (arith, b .from, b .before));
-          moved = λ v h. inl (record { label = refl; key = refl; depth = inl refl });
-        };
+        relaxed = unmoved (x .coherent) (λ v e h b. absurd (omega (arith, b .from, b .before)));
       }
 
   module _ (end k hand : ℕ) (w : List ℕ) (j : ℕ) (going : Expanding places limit u d end k hand₀ w₀ hand w j) where

@@ -14,22 +14,12 @@ use Rattle.model.specs.Routes.{leastPaths}
 use Rattle.model.specs.Terms.{AtMost, NoMore}
 use Rattle.model.proofs.Relaxing.{weaken, arcs-cost}
 use Rattle.model.proofs.LeastCosts.{entry-below, entry-path, start-below, table-least}
+use Rattle.model.proofs.Keys.{no-more-on}
 use Rattle.model.proofs.Routes.{before-least}
 use Rattle.model.proofs.LeastPaths.{LeastPath, count-within, least-paths-valid, counted-least, least-counted}
 use Rattle.query.specs.Front.{Front, Through, PathFound, FewestFound, FirstOpen, Gives, Expanded, Deepened, also}
 use Rattle.query.proofs.Settling.{also-true, also-same, also-still, old-label, still-labelled, expand-relaxed, path-after}
 use Rattle.query.proofs.Front.{first-open-least}
-
--- the order is transitive
-pub no-more-on : {a b c d e f : ℕ} → NoMore a b c d → NoMore c d e f → NoMore a b e f
-no-more-on {a} {c = c} {e = e} x y =
-    record {
-      first = omega (arith, x .first, y .first);
-      second = λ q.
-          let low : a ≡ c = omega (arith, x .first, y .first) in
-          let high : c ≡ e = omega arith in
-          omega (arith, x .second low, y .second high);
-    }
 
 -- ---- Paths found
 
@@ -197,7 +187,7 @@ module _ (p : Problem) (ok : Valid p) (C : ℕ) (label : ℕ → Option ℕ) (de
       expanded : costAt (table p C) (a .from) ≡ some d → d < c → (b : Bool) → settled (a .from) ≡ b → b ≡ true
       expanded entry less true s = refl
       expanded entry less false s =
-          absurd (omega (arith, path-after p ok C label settled front g c f (a .from) d (entry-path p C (a .from) d entry) s .costs))
+          absurd (omega (arith, path-after p ok C label settled front g c f (a .from) d (entry-path p C (a .from) d entry) s .first))
 
   -- the depths up to its cost are the least numbers of arcs over all least paths
   pub depth-entry : (v d : ℕ) → label v ≡ some d → d ≤ c → costAt (table p C) v ≡ some d

@@ -37,8 +37,8 @@ precedes-trans i j k e h = cannot-fail (precedes i k) never
         let ji = precedes-true i j e in
         let kj = precedes-true j k h in
         let ik = precedes-false i k q in
-        let low : j .place ≤ i .place = omega (arith, kj .places (omega arith), ik .places (omega arith)) in
-        not-both e (not-precedes i j (record { costs = omega arith; places = λ r. low }))
+        let low : j .place ≤ i .place = omega (arith, kj .second (omega arith), ik .second (omega arith)) in
+        not-both e (not-precedes i j (record { first = omega arith; second = λ r. low }))
 
 module _ (p : Problem) (C b : ℕ) where
   query-over : b < queryLength p C → (query p C b .outcome ≡ over) × (query p C b .cost ≡ b)
@@ -125,8 +125,8 @@ module _ (p : Problem) (ok : Valid p) (C : ℕ) (label : ℕ → Option ℕ) (se
       (record {
         is-goal = i;
         entry = first-open-least g d f;
-        cheapest = λ h x j e. after h x j e .costs;
-        lowest = λ h j e. after h d j e .places refl;
+        cheapest = λ h x j e. after h x j e .first;
+        lowest = λ h j e. after h d j e .second refl;
       })
 
   pub goal-outcome : (g d b : ℕ) → FirstOpen label settled g d → IsGoal p g → countBelow settled (p .places) ≤ b
@@ -151,7 +151,7 @@ module _ (p : Problem) (ok : Valid p) (C : ℕ) (label : ℕ → Option ℕ) (se
       own = key-entry (table p C) (key d v) .1 (first-open-least v d f)
 
       not-itself : precedes (key d v) (key d v) ≡ false
-      not-itself = not-precedes (key d v) (key d v) (record { costs = le-refl d; places = λ q. le-refl v })
+      not-itself = not-precedes (key d v) (key d v) (record { first = le-refl d; second = λ q. le-refl v })
 
       precedes-goal : (g : Key) → IsFirstGoal p (table p C) g → precedes (key d v) g ≡ true
       precedes-goal g first = cannot-fail (precedes (key d v) g) never
@@ -160,7 +160,7 @@ module _ (p : Problem) (ok : Valid p) (C : ℕ) (label : ℕ → Option ℕ) (se
           never e =
               let before = precedes-false (key d v) g e in
               let after = open-after v d f (g .place) (g .cost) (first .entry) (front .no-goal (g .place) (first .is-goal)) in
-              let same : g .place ≡ v = omega (arith, before .places (omega arith), after .places (omega arith)) in
+              let same : g .place ≡ v = omega (arith, before .second (omega arith), after .second (omega arith)) in
               n (rw same at (first .is-goal))
 
       go : (o : Option Key) → firstGoal p (table p C) ≡ o → length (filter (λ (k : Key). precedes k (key d v)) ks) < lengthTo o ks

@@ -139,7 +139,7 @@ module _ (p : Problem) (ok : Valid p) (C : ℕ) (label : ℕ → Option ℕ) (se
       go (inl h) = absurd (not-both (h .0) s)
       go (inr o) =
           let low = f .least (o .place) (o .cost) (o .is-open) (o .is-labelled) in
-          record { costs = omega arith; places = λ q. at-d o low q (o .last) }
+          record { first = omega arith; second = λ q. at-d o low (sym q) (o .last) }
 
   -- a path to a place that is not settled, and that costs no more than the first open one, costs what the place is labelled
   pub path-label : (v d : ℕ) → FirstOpen label settled v d → (w x : ℕ) → PathWithin p C w x → settled w ≡ false → x ≤ d → label w ≡ some x

@@ -16,7 +16,7 @@ use Rattle.layout.specs.Labels.{labels, depths, parentAt, Follows, first, after
 use Rattle.layout.proofs.Held.{problem-same}
 use Rattle.layout.proofs.Labels.{HasLabel, label-is, is-label, depth-at}
 use Rattle.model.specs.Lists.{filterMap, least}
-use Rattle.model.specs.Problem.{Problem, Arc, IsGoal, Valid}
+use Rattle.model.specs.Problem.{Problem, Arc, IsArc, IsGoal, Valid}
 use Rattle.model.specs.Costs.{Table, costAt, table}
 use Rattle.model.specs.Query.{Key, firstGoal}
 use Rattle.model.specs.Routes.{parentBy, parent, extend, routeUpTo, routeTo, leastPaths, routeToFirst, firstRoute}
@@ -24,7 +24,7 @@ use Rattle.model.proofs.Lists.{none-some, filterMap-member}
 use Rattle.model.proofs.LeastCosts.{entry-place}
 use Rattle.model.proofs.Keys.{first-goal-some, first-goal-is}
 use Rattle.model.proofs.Routes.{parentBy-some, parent-via}
-use Rattle.model.proofs.LeastPaths.{arc-tight, tight-arc, goal-at, least-paths-valid}
+use Rattle.model.proofs.LeastPaths.{Tight, arc-tight, tight-arc, goal-at, least-paths-valid}
 use Rattle.model.specs.Terms.{NoMore}
 use Rattle.model.proofs.Same.{same-least}
 use Rattle.scans.specs.Area.{parentFrom, HasParents, NearestGoal}
@@ -69,6 +69,30 @@ module _ (p : Problem) (ok : Valid p) (C : ℕ) (label : Table) (ks : List ℕ) 
     entry : costAt (table p C) v ≡ some d
     entry = agrees .label-entry v d l h
 
+    -- an arc among the least paths to v, and its start, which is labelled no more than c either
+    record LastArc (b : Arc) : Type 0 where
+      tight : Tight p (table p C) c b
+      at-start : b .from ≡ tight .arc .from
+      at-end : tight .arc .to ≡ v
+      total : tight .before + tight .arc .cost ≡ d
+      low : tight .before ≤ c
+      known : costAt label (tight .arc .from) ≡ some (tight .before)
+
+    last-arc : (b : Arc) → IsArc q b → b .to ≡ v → LastArc b
+    last-arc b i ends =
+        let t = arc-tight p (table p C) c b i in
+        let at-end : t .arc .to ≡ v = sym (ap (λ (x : Arc). x .to) (t .is)) ∙ ends in
+        let total : t .before + t .arc .cost ≡ d = Option·some-injective _ _ (sym (t .reached) ∙ ap (costAt (table p C)) at-end ∙ entry) in
+        let low : t .before ≤ c = omega arith in
+        record {
+          tight = t;
+          at-start = ap (λ (x : Arc). x .from) (t .is);
+          at-end = at-end;
+          total = total;
+          low = low;
+          known = agrees .entry-label (t .arc .from) (t .before) (t .entry) low;
+        }
+
     to-counted : (u : ℕ) → List·Memᴰ u (filterMap (parentFrom label ks v) (p .arcs)) → List·Memᴰ u (filterMap (candidate v) (q .arcs))
     unfolding parentBy
     to-counted u m =
@@ -89,20 +113,16 @@ module _ (p : Problem) (ok : Valid p) (C : ℕ) (label : Table) (ks : List ℕ) 
     from-counted u m =
         let (b, i, e) = filterMap-member (candidate v) (q .arcs) u .0 m in
         let (before, start, sum, ends, from) = parentBy-some b v (costAt arcs (b .from)) (costAt arcs v) u e in
-        let t = arc-tight p (table p C) c b i in
+        let x = last-arc b i ends in
+        let t = x .tight in
         let a = t .arc in
-        let from-is : b .from ≡ a .from = ap (λ (x : Arc). x .from) (t .is) in
-        let to-is : a .to ≡ v = sym (ap (λ (x : Arc). x .to) (t .is)) ∙ ends in
-        let total : t .before + a .cost ≡ d = Option·some-injective _ _ (sym (t .reached) ∙ ap (costAt (table p C)) to-is ∙ entry) in
-        let low : t .before ≤ c = omega arith in
-        let known = agrees .entry-label (a .from) (t .before) (t .entry) low in
         let own : getD ks (a .from) 0 ≡ before =
-        Option·some-injective _ _ (sym (deep (a .from) (t .before) known low) ∙ ap (costAt arcs) (sym from-is) ∙ start) in
+        Option·some-injective _ _ (sym (deep (a .from) (t .before) (x .known) (x .low)) ∙ ap (costAt arcs) (sym (x .at-start)) ∙ start) in
         let end : getD ks v 0 ≡ before + b .cost = Option·some-injective _ _ (sym (deep v d l h) ∙ sum) in
         let one : b .cost ≡ 1 = ap (λ (x : Arc). x .cost) (t .is) in
         let deeper : getD ks (a .from) 0 + 1 ≡ getD ks v 0 = omega arith in
         filterMap-member (parentFrom label ks v) (p .arcs) u .1
-        (a, t .is-arc, rw (eq-eqb _ _ deeper, known, l, eq-eqb (a .to) v to-is, eq-eqb _ _ total) (ap some (sym from-is ∙ from)))
+        (a, t .is-arc, rw (eq-eqb _ _ deeper, x .known, l, eq-eqb (a .to) v (x .at-end), eq-eqb _ _ (x .total)) (ap some (sym (x .at-start) ∙ from)))
 
     same-parent : least (filterMap (parentFrom label ks v) (p .arcs)) ≡ parent q arcs v
     unfolding parent
@@ -134,15 +154,10 @@ module _ (p : Problem) (ok : Valid p) (C : ℕ) (label : Table) (ks : List ℕ) 
         go none z rest = first (place v d l h) (parent-is v d l h ∙ z)
         go (some u) z rest =
             let (by, from) = parent-via q c v j e u z in
-            let t = arc-tight p (table p C) c (by .arc) (by .is-arc) in
-            let at-u : t .arc .from ≡ u = sym (ap (λ (x : Arc). x .from) (t .is)) ∙ from in
-            let at-v : t .arc .to ≡ v = sym (ap (λ (x : Arc). x .to) (t .is)) ∙ by .ends in
-            let total : t .before + t .arc .cost ≡ d =
-            Option·some-injective _ _ (sym (t .reached) ∙ ap (costAt (table p C)) at-v ∙ entry v d l h) in
-            let low : t .before ≤ c = omega arith in
-            let known = agrees .entry-label u (t .before) (rw at-u at (t .entry)) low in
+            let x = last-arc v d l h (by .arc) (by .is-arc) (by .ends) in
+            let known = rw (sym (x .at-start) ∙ from) at (x .known) in
             let less : by .before ≤ k = omega (arith, fine .cost-above (by .arc) (by .is-arc), by .sum) in
-            after (place v d l h) (parent-is v d l h ∙ z) (rest u (by .before) (t .before) (rw from at (by .entry)) less known low)
+            after (place v d l h) (parent-is v d l h ∙ z) (rest u (by .before) (x .tight .before) (rw from at (by .entry)) less known (x .low))
 
     -- from the goal at cost c that comes first by depth, along the first route
     follows-first : (goal : ℕ) → IsGoal p goal → costAt label goal ≡ some c
