@@ -1,10 +1,10 @@
 // Program `cases`: stored cases on standard input, each through the whole call; on standard output how many were right and wrong, by group.
 // tests/cases.py makes the stored file, and says what it holds.
+use answer::Answer;
 use area::index32;
 use area::u32_at;
 use libc::STDIN_FILENO;
 use libc::STDOUT_FILENO;
-use router::Answer;
 ghost use mathlib.Core.Path.{_≡_};
 ghost use mathlib.Core.Bool.{true};
 ghost use Prim.Native.Nat.{_≤_};

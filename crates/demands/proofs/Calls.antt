@@ -9,8 +9,8 @@ use Rattle.model.specs.Answer as model
 use Rattle.model.specs.Answer.{Result, overFront}
 use Rattle.model.specs.Calls.{result, Keeps}
 use Rattle.model.proofs.Demands.{Demands, demands}
-use Rattle.router.specs.declared.Answer.{Answer}
-use Rattle.router.specs.Call.{seven}
+use Rattle.answer.specs.Numbers.{seven}
+use Rattle.answer.specs.declared.Answer.{Answer}
 use Rattle.demands.specs.Calls.{Routes, Exports, answerIn}
 
 -- the code's answer with these numbers

@@ -6,8 +6,9 @@ use lib.ListN.{length, getD}
 use Rattle.model.specs.Answer as model
 use Rattle.model.specs.Answer.{Result, answer}
 use Rattle.model.specs.Calls.{Call}
-use Rattle.router.specs.declared.Answer.{Answer}
-use Rattle.router.specs.Call.{Routed, RoutedFor, answerOf}
+use Rattle.answer.specs.Numbers.{answerOf}
+use Rattle.answer.specs.declared.Answer.{Answer}
+use Rattle.router.specs.Call.{Routed, RoutedFor}
 
 -- router::route: an answer with r's numbers, and r's areas after the call
 pub record Routes (c : Call) (r : Result) : Type 0 where

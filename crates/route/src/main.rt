@@ -1,16 +1,16 @@
 // Program `route`: a map with its job on standard input, the answer on standard output.
+use answer::Answer;
 use console::INPUT;
 use console::Input;
 use console::SHEET;
 use console::WORK;
 use libc::STDIN_FILENO;
 use map::Map;
-use router::Answer;
 ghost use mathlib.Core.Path.{_≡_};
 ghost use Prim.Native.Nat.{_+_, _*_, _≤_};
 ghost use lib.ListN.{length};
 ghost use Rattle.model.specs.Limits.{maxPlaces};
-ghost use Rattle.router.specs.Call.{answerOf};
+ghost use Rattle.answer.specs.Numbers.{answerOf};
 ghost use Rattle.text.specs.Text.{line, Put};
 ghost use Rattle.route.specs.Printed.{placesOn, textOf, answered, Prints, LineOne};
 

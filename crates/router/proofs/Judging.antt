@@ -14,9 +14,10 @@ use Rattle.model.specs.Stated.{stated}
 use Rattle.model.specs.Refusals.{roomRows, firstThatHolds, firstOf, inputRefusal, refusal}
 use Rattle.model.specs.Answer.{answer}
 use Rattle.model.proofs.Rows.{refusal-parts}
-use Rattle.router.specs.Call.{answerOf, Routed}
+use Rattle.answer.specs.Numbers.{answerOf}
+use Rattle.answer.specs.declared.Answer.{Answer}
+use Rattle.router.specs.Call.{Routed}
 use Rattle.router.specs.Steps.{Passes}
-use Rattle.router.specs.declared.Answer.{Answer}
 use Rattle.router.proofs.Lent.{refusal-routed}
 
 -- a number of the input itself is the call's

@@ -15,9 +15,10 @@ use Rattle.model.specs.Refusals.{firstOf, holdsAt, inputRefusal, refusal}
 use Rattle.model.specs.Answer.{answer, refusedWith, callIf, call}
 use Rattle.model.proofs.Lists.{neither}
 use Rattle.model.proofs.Rows.{row-fails, input-numbered, refusal-parts}
-use Rattle.router.specs.Call.{answerOf, Routed}
+use Rattle.answer.specs.Numbers.{answerOf}
+use Rattle.answer.specs.declared.Answer.{Answer}
+use Rattle.router.specs.Call.{Routed}
 use Rattle.router.specs.Steps.{Passes, HasRoom, roomNumber}
-use Rattle.router.specs.declared.Answer.{Answer}
 
 -- a refused call: its number and zeros, and both areas as they were
 pub refusal-routed : (input work sheet : List ℕ) (n : ℕ) (r : Answer) → n ≡ refusal (frame input) (length work) (length sheet) → (n ≡ 0 → ⊥)

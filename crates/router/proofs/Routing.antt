@@ -6,7 +6,6 @@ use Prim.Native.Nat.{ℕ, _≤_}
 use native.Mathlib.Omega.{arith}
 use lib.Dec.{ltb}
 use lib.ListN.{length, take, replicate, length-replicate}
-use lib.Seq.{sets}
 use borrow.Author.Tests.{ltb-false}
 use Rattle.map.specs.Sizes.{wordsOf, bytesOf}
 use Rattle.map.specs.declared.Job.{Job}
@@ -32,11 +31,12 @@ use Rattle.search.specs.Rounds.{Means, Searched}
 use Rattle.search.specs.declared.Verdict.{Verdict}
 use Rattle.search.specs.declared.Verdict.the-variants.{Spent, NoRoute}
 use Rattle.search.specs.declared.Verdict.the-variants as verdict
-use Rattle.router.specs.Call.{answerOf, seven, Routed, RoutedFor}
+use Rattle.answer.specs.Numbers.{answerOf, seven}
+use Rattle.answer.specs.declared.Answer.{Answer}
+use Rattle.router.specs.Call.{Routed, RoutedFor}
 use Rattle.router.specs.Steps.{HasRoom, Writable, Written, numbersOf, Concludable, Concluded}
-use Rattle.router.specs.declared.Answer.{Answer}
 use Rattle.router.proofs.Counting.{routed-possible, follows-few}
-use Rattle.router.proofs.Words.{rest-kept, stored}
+use Rattle.router.proofs.Words.{rest-kept}
 
 -- ---- Any verdict, concluded
 
@@ -137,16 +137,14 @@ module _ {input work₀ sheet₀ loaded work : List ℕ} {j : Job} {v : Verdict}
             ∙ rw (s .accepted, loaded-ending, ← (s .states .places), ← (s .states .arcs), front-zero);
       }
 
--- The same for a host, where the seven numbers are stored one by one into the lent words.
+-- The same for a host, where the seven numbers go into the lent words.
 pub routed-for : {input work₀ sheet₀ work sheet : List ℕ} {r : Answer} → Routed input work₀ sheet₀ r work sheet → (answer₀ answer : List ℕ)
-    → answer ≡ sets answer₀ 0 (seven (answerOf r)) → RoutedFor input work₀ sheet₀ answer₀ (r .number) work sheet answer
+    → answer ≡ overFront (take (length answer₀) (seven (answerOf r))) answer₀
+    → RoutedFor input work₀ sheet₀ answer₀ (r .number) work sheet answer
 routed-for routed answer₀ answer e =
     record {
       gives = ap (λ (x : Result). x .answer .number) (routed .result);
       leaves-work = ap (λ (x : Result). x .work) (routed .result);
       leaves-sheet = ap (λ (x : Result). x .sheet) (routed .result);
-      leaves-answer =
-          e
-          ∙ stored (seven (answerOf _)) answer₀
-          ∙ ap (λ (x : Result). overFront (take (length answer₀) (seven (x .answer))) answer₀) (routed .result);
+      leaves-answer = e ∙ ap (λ (x : Result). overFront (take (length answer₀) (seven (x .answer))) answer₀) (routed .result);
     }

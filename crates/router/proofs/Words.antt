@@ -1,10 +1,10 @@
--- The work area after the call, and words stored one by one. Assumes nothing.
-use mathlib.Core.Path.{_≡_, refl, ap, _∙_}
-use mathlib.Core.List.{List, [], _∷_}
-use Prim.Native.Nat.{ℕ, suc, _-_, _≤_}
+-- The work area after the call. Assumes nothing.
+use mathlib.Core.Path.{_≡_, _∙_}
+use mathlib.Core.List.{List}
+use Prim.Native.Nat.{ℕ, _-_, _≤_}
 use native.Mathlib.Omega.{arith}
-use lib.ListN.{length, take, drop, set, replicate, length-replicate}
-use lib.Seq.{sets, length-take-le}
+use lib.ListN.{length, take, drop, replicate, length-replicate}
+use lib.Seq.{length-take-le}
 use borrow.Rule.Slice.PartMut.{putMid}
 use Rattle.area.proofs.Parts.{less-after}
 use Rattle.map.specs.declared.Site.{Site}
@@ -29,20 +29,3 @@ cleared need work₀ work front l e f =
     let all : need - 0 ≡ need = omega arith in
     let zeros : front ≡ replicate need 0 = rw (f, all, length-take-le need work l) in
     rw (zeros, all, length-replicate, e)
-
--- a store beyond the first element
-sets-later : (x : ℕ) (area : List ℕ) (i : ℕ) (new : List ℕ) → sets (x ∷ area) (suc i) new ≡ x ∷ sets area i new
-sets-later x area i [] = refl
-sets-later x area i (y ∷ new) = sets-later x (set area i y) (suc i) new
-
-sets-nothing : (i : ℕ) (new : List ℕ) → sets [] i new ≡ []
-sets-nothing i [] = refl
-sets-nothing i (y ∷ new) = sets-nothing (suc i) new
-
--- The numbers stored one by one from the front on, as many as there is room for.
-pub stored : (new area : List ℕ) → sets area 0 new ≡ overFront (take (length area) new) area
-unfolding overFront
-stored [] [] = refl
-stored [] (x ∷ area) = refl
-stored (y ∷ new) [] = sets-nothing 1 new
-stored (y ∷ new) (x ∷ area) = sets-later y area 0 new ∙ ap (λ (l : List ℕ). y ∷ l) (stored new area)

@@ -1,30 +1,14 @@
 -- The promise of the public call: answer, work area and sheet area after it are those of the definition `route`.
 use mathlib.Core.Path.{_≡_}
-use mathlib.Core.List.{List, [], _∷_}
+use mathlib.Core.List.{List}
 use Prim.Native.Nat.{ℕ}
 use lib.ListN.{length, take}
-use Rattle.model.specs.Answer as model
 use Rattle.model.specs.Answer.{Result, route, overFront}
-use Rattle.router.specs.declared.Answer.{Answer}
-
-abbrev pub answerOf : Answer → model.Answer
-answerOf r =
-    record {
-      number = r .number;
-      cost = r .cost;
-      limit = r .limit;
-      floor = r .floor;
-      expansions = r .expansions;
-      queries = r .queries;
-      sheet-bytes = r .«sheet_bytes»;
-    }
+use Rattle.answer.specs.Numbers.{answerOf, seven}
+use Rattle.answer.specs.declared.Answer.{Answer}
 
 pub record Routed (input work₀ sheet₀ : List ℕ) (r : Answer) (work sheet : List ℕ) : Type 0 where
   pub result : _≡_ {A = Result} (record { answer = answerOf r; work = work; sheet = sheet }) (route input work₀ sheet₀)
-
--- the seven numbers in order
-abbrev pub seven : model.Answer → List ℕ
-seven a = a .number ∷ a .cost ∷ a .limit ∷ a .floor ∷ a .expansions ∷ a .queries ∷ a .sheet-bytes ∷ []
 
 -- The same for a host: the number comes back, and the lent words have as many of the seven numbers as there is room for.
 pub record RoutedFor (input work₀ sheet₀ answer₀ : List ℕ) (r : ℕ) (work sheet answer : List ℕ) : Type 0 where

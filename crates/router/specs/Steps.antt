@@ -18,8 +18,8 @@ use Rattle.search.specs.Rounds.{Means}
 use Rattle.search.specs.declared.Verdict.{Verdict}
 use Rattle.search.specs.declared.Verdict.the-variants.{Spent, NoRoute, Routed}
 use Rattle.sheet_writer.specs.Write.{FitsNoRoute, FitsRoute}
-use Rattle.router.specs.declared.Answer.{Answer}
-use Rattle.router.specs.Call.{answerOf}
+use Rattle.answer.specs.Numbers.{answerOf}
+use Rattle.answer.specs.declared.Answer.{Answer}
 
 -- no condition of the input itself holds, and the job is what it states
 pub record Passes (input : List ℕ) (j : Job) : Type 0 where

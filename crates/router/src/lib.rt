@@ -1,4 +1,5 @@
 // The public call: from an input and two lent areas to the answer, with the route sheet in the sheet area.
+use answer::Answer;
 use judge::Judgement;
 use map::Job;
 use map::Site;
@@ -6,23 +7,10 @@ use map::number;
 use search::Verdict;
 ghost use mathlib.Core.Path.{_≡_};
 ghost use Prim.Native.Nat.{_≤_};
-ghost use lib.ListN.{set};
-ghost use lib.Seq.{sets};
-ghost use Rattle.model.specs.Answer.{answer};
 ghost use Rattle.model.specs.Limits.{maxPlaces, maxArcs};
-ghost use Rattle.router.specs.Call.{Routed, RoutedFor, answerOf, seven};
+ghost use Rattle.answer.specs.Numbers.{answerOf};
+ghost use Rattle.router.specs.Call.{Routed, RoutedFor};
 ghost use Rattle.router.specs.Steps.{Passes, HasRoom, roomNumber, Writable, Written, numbersOf, Concludable, Concluded};
-
-// Document 01's seven numbers.
-pub struct Answer {
-    pub number: u32,
-    pub cost: u32,
-    pub limit: u32,
-    pub floor: u32,
-    pub expansions: u32,
-    pub queries: u32,
-    pub sheet_bytes: u32,
-}
 
 // Writes the sheet of a verdict, if it has one, and gives its bytes.
 fn write_sheet(verdict: Verdict, site: Site, work: &[u32], sheet: &mut [u8]) -> u32
@@ -70,20 +58,6 @@ fn numbers(verdict: Verdict, bytes: u32) -> Answer
     }
 }
 
-fn refused(number: u32) -> Answer
-    ensures { λ r. ⌜ answerOf r ≡ answer number 0 0 0 0 0 0 ⌝ }
-{
-    Answer {
-        number,
-        cost: 0,
-        limit: 0,
-        floor: 0,
-        expansions: 0,
-        queries: 0,
-        sheet_bytes: 0,
-    }
-}
-
 // How every search ends a call: with its sheet, zeros in the words that document 01 asks for, and its numbers.
 fn conclude(verdict: Verdict, site: Site, work: &mut [u32], sheet: &mut [u8]) -> Answer
     requires { ⌜ Concludable site verdict (now work) (now sheet) ⌝ }
@@ -127,7 +101,7 @@ fn with_room(input: &[u8], job: Job, work: &mut [u32], sheet: &mut [u8]) -> Answ
 {
     let short = room(job.site, work.len(), sheet.len());
     if short != 0 {
-        return refused(short);
+        return answer::refused(short);
     }
     accepted(input, job, work, sheet)
 }
@@ -137,31 +111,9 @@ pub fn route(input: &[u8], work: &mut [u32], sheet: &mut [u8]) -> Answer
 {
     let judgement = judge::judge(input);
     match judgement {
-        Judgement::Refused(number) => refused(number),
+        Judgement::Refused(number) => answer::refused(number),
         Judgement::Accepted(job) => with_room(input, job, work, sheet),
     }
-}
-
-// Stores x at i, where there is such a word.
-fn put(words: &mut [u32], i: usize, x: u32)
-    ensures { λ _. ⌜ now (words .exit) ≡ set (now (words .entry)) i x ⌝ }
-{
-    if i < words.len() {
-        words[i] = x;
-    }
-}
-
-// The seven numbers in order, as many as there is room for.
-fn put_numbers(words: &mut [u32], r: Answer)
-    ensures { λ _. ⌜ now (words .exit) ≡ sets (now (words .entry)) 0 (seven (answerOf r)) ⌝ }
-{
-    put(words, 0, r.number);
-    put(words, 1, r.cost);
-    put(words, 2, r.limit);
-    put(words, 3, r.floor);
-    put(words, 4, r.expansions);
-    put(words, 5, r.queries);
-    put(words, 6, r.sheet_bytes);
 }
 
 // The call for a host: the number comes back, and the seven numbers are in the lent words.
@@ -176,6 +128,6 @@ pub extern "C" fn r3_route(
         (now (work .exit)) (now (sheet .exit)) (now (words .exit)) ⌝ }
 {
     let answer = route(input, work, sheet);
-    put_numbers(words, answer);
+    answer::put_numbers(words, answer);
     answer.number
 }

@@ -2,7 +2,7 @@
 use native.Mathlib.Omega.{arith}
 use borrow.Author.Needs.{needs}
 use Rattle.text.proofs.Lines.{line-length}
-use Rattle.router.specs.Call.{answerOf}
+use Rattle.answer.specs.Numbers.{answerOf}
 use Rattle.route.specs.Printed.{six}
 use Rattle.route.proofs.put_answer.Statement.{statement}
 use Rattle.route.proofs.put_answer.Tie as tie

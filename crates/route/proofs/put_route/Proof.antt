@@ -6,7 +6,7 @@ use lib.ListN.{length}
 use lib.Seq.{length-take-le}
 use borrow.Author.Needs.{needs}
 use Rattle.model.specs.Answer.{Result}
-use Rattle.router.specs.Call.{answerOf}
+use Rattle.answer.specs.Numbers.{answerOf}
 use Rattle.text.proofs.Puts.{put-then}
 use Rattle.route.specs.Printed.{answered}
 use Rattle.route.proofs.Sheets.{sheet-within}

@@ -2,8 +2,8 @@
 use mathlib.Core.Path.{sym}
 use borrow.Author.Needs.{needs}
 use lib.Seq.{set-out}
-use Rattle.router.proofs.put.Statement.{statement}
-use Rattle.router.proofs.put.Tie as tie
+use Rattle.answer.proofs.put.Statement.{statement}
+use Rattle.answer.proofs.put.Tie as tie
 
 mul-words : tie.Need-mul-words
 mul-words c = search needs

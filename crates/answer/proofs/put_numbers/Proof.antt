@@ -1,7 +1,8 @@
--- The seven stores one after another.
+-- The seven stores one after another, as far as there is room, are one run from the front on.
 use borrow.Author.Needs.{needs}
-use Rattle.router.proofs.put_numbers.Statement.{statement}
-use Rattle.router.proofs.put_numbers.Tie as tie
+use Rattle.answer.proofs.Words.{stored}
+use Rattle.answer.proofs.put_numbers.Statement.{statement}
+use Rattle.answer.proofs.put_numbers.Tie as tie
 
 put-requires : tie.Need-put-requires
 put-requires c κs = search needs
@@ -28,7 +29,7 @@ same-length : tie.Need-same-length
 same-length c = search needs
 
 returns : tie.Need-returns
-returns c = cc
+returns c = rw (← stored) cc
 
 pub put-numbers-spec : {M : Type 1} → statement M
 put-numbers-spec =

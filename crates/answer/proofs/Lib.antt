@@ -1,0 +1,2 @@
+-- A law of words stored one by one.
+pub mod Words

@@ -1,0 +1,2 @@
+-- The seven numbers.
+pub mod Numbers
