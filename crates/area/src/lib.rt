@@ -1,6 +1,6 @@
 // Little-endian fields of 2 and 4 bytes in a slice of bytes, and slices of words.
 ghost use mathlib.Core.Path.{_≡_};
-ghost use Prim.Native.Nat.{_+_, _<_};
+ghost use Prim.Native.Nat.{_+_, _<_, _≤_};
 ghost use lib.ListN.{length, replicate};
 ghost use lib.Seq.{sets};
 ghost use Rattle.model.specs.Bytes.{u16, u32, put16 as bytes16, put32 as bytes32};
@@ -75,4 +75,16 @@ pub fn put32(s: &mut [u8], i: usize, x: u32)
 {
     put16(s, i, x);
     put16(s, i + 2, x / 65536);
+}
+
+// Writes bytes one after another, the first at byte i.
+pub fn put_bytes(s: &mut [u8], i: usize, bytes: &[u8])
+    requires { ⌜ i + length (now bytes) ≤ length (now s) ⌝ }
+    ensures { λ _. ⌜ now (s .exit) ≡ sets (now (s .entry)) i (now (bytes .entry)) ⌝ }
+{
+    let mut k = 0;
+    while k < bytes.len() {
+        s[i + k] = bytes[k];
+        k += 1;
+    }
 }

@@ -7,3 +7,4 @@ pub mod WalkLaws
 pub mod GoalLaws
 pub mod JudgeMap
 pub mod JudgeJob
+pub mod Passing

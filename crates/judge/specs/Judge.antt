@@ -18,3 +18,8 @@ pub record Judged (input : List ℕ) (r : Judgement) : Type 0 where
   pub number : numberOf r ≡ inputRefusal (frame input)
   pub some-number : (n : ℕ) → r ≡ Refused n → 1 ≤ n
   pub states : (j : Job) → r ≡ Accepted j → States input j
+
+-- no condition of the input itself holds, and the job is what it states
+pub record Passes (input : List ℕ) (j : Job) : Type 0 where
+  pub number : inputRefusal (frame input) ≡ 0
+  pub states : States input j

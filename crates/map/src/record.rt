@@ -6,31 +6,31 @@ ghost use Rattle.model.specs.Items.{headBytes, arcBytes, estimateBytes, measure
 ghost use Rattle.map.specs.Records.{readAt};
 ghost use Rattle.map.specs.Items.{sizeAt, laneMeant, measuredMeant, estimateAt, jobAt, LiesIn, FitsIn, Says, EndsBy};
 
-const HEAD_KIND: u16 = 1;
+pub const HEAD_KIND: u16 = 1;
 
-const ARC_KIND: u16 = 2;
+pub const ARC_KIND: u16 = 2;
 
-const ESTIMATE_KIND: u16 = 3;
+pub const ESTIMATE_KIND: u16 = 3;
 
-const JOB_KIND: u16 = 4;
+pub const JOB_KIND: u16 = 4;
 
 // An arc that is measured: it has a length and a class in place of a cost.
-const MEASURED_KIND: u16 = 5;
+pub const MEASURED_KIND: u16 = 5;
 
 // The papers' kinds are those from 1 on up to this one.
 const LAST_KIND: u16 = 5;
 
 // The bytes before a record's body: its length and its kind.
-const HEADER: usize = 4;
+pub const HEADER: usize = 4;
 
 // How long a body is, by its kind; a job's length depends on its goals.
-const HEAD_BYTES: usize = 4;
+pub const HEAD_BYTES: usize = 4;
 
-const ARC_BYTES: usize = 6;
+pub const ARC_BYTES: usize = 6;
 
-const ESTIMATE_BYTES: usize = 6;
+pub const ESTIMATE_BYTES: usize = 6;
 
-const MEASURED_BYTES: usize = 8;
+pub const MEASURED_BYTES: usize = 8;
 
 // Where the fields of a head stand in its body.
 const PLACES: usize = 0;
@@ -60,7 +60,7 @@ const ALLOWANCE: usize = 2;
 
 const GOAL_COUNT: usize = 6;
 
-const GOALS: usize = 8;
+pub const GOALS: usize = 8;
 
 // A whole record: its kind, and where its body stands. The next one begins where the body ends.
 pub struct Record {

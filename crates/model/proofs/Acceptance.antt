@@ -26,7 +26,7 @@ some-member [] h = absurd (omega arith)
 some-member (x ∷ xs) h = (x, List·Memᴰ·head refl)
 
 -- the bodies of the records in bytes are bytes
-body-bytes : (k : ℕ) (bs : List ℕ) → Bytes bs → (r : Record) → List·Memᴰ r (frameUpTo k bs .records) → Bytes (r .body)
+pub body-bytes : (k : ℕ) (bs : List ℕ) → Bytes bs → (r : Record) → List·Memᴰ r (frameUpTo k bs .records) → Bytes (r .body)
 unfolding frameUpTo
 body-bytes zero bs B r i = absurd (List·Memᴰ·not-nil i)
 body-bytes (suc k) [] B r i = absurd (List·Memᴰ·not-nil i)
@@ -47,7 +47,7 @@ body-bytes (suc k) (a ∷ b ∷ c ∷ d ∷ rest) B r i =
     go n bytes later true (List·Memᴰ·tail i) = later i
     go n bytes later false i = absurd (List·Memᴰ·not-nil i)
 
-lookup-below : (es : List Estimate) (m : ℕ) → ((e : Estimate) → List·Memᴰ e es → e .value ≤ m) → (v : ℕ) → lookup 0 es v ≤ m
+pub lookup-below : (es : List Estimate) (m : ℕ) → ((e : Estimate) → List·Memᴰ e es → e .value ≤ m) → (v : ℕ) → lookup 0 es v ≤ m
 unfolding lookup
 lookup-below [] m h v = omega arith
 lookup-below (e ∷ es) m h v = go (lookup-below es m (λ f i. h f (List·Memᴰ·tail i)) v) (eqb (e .place) v)
@@ -57,7 +57,8 @@ lookup-below (e ∷ es) m h v = go (lookup-below es m (λ f i. h f (List·Memᴰ
     go rest false = rest
 
 -- a flat cost is a number of 2 bytes
-flat-below : (input : List ℕ) → Bytes input → (l : Lane) → List·Memᴰ l (statedIn input .lanes) → (cost : ℕ) → l .charge ≡ flat cost → cost ≤ maxCost
+pub flat-below : (input : List ℕ) → Bytes input → (l : Lane) → List·Memᴰ l (statedIn input .lanes)
+    → (cost : ℕ) → l .charge ≡ flat cost → cost ≤ maxCost
 unfolding frame stated statedBy items
 flat-below input B l i cost e =
     let (k, m, has) = filterMap-member laneIn (items (frame input .records)) l .0 i in

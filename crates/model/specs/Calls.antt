@@ -43,10 +43,14 @@ Program = Call → Result → Type 0
 abbrev pub Defined : Program
 Defined c r = r ≡ result c
 
--- the program does what the definition says, and nothing else
-pub record Keeps (P : Program) : Type 0 where
-  pub gives : (c : Call) → P c (result c)
-  pub only : (c : Call) (r : Result) → P c r → r ≡ result c
+-- the program does what a definition says, and nothing else
+pub record KeepsTo (definition : Call → Result) (P : Program) : Type 0 where
+  pub gives : (c : Call) → P c (definition c)
+  pub only : (c : Call) (r : Result) → P c r → r ≡ definition c
+
+-- it routes
+abbrev pub Keeps : Program → Type 0
+Keeps P = KeepsTo result P
 
 -- the bytes b are the sheet that the program writes for this job, which is accepted, with the number n in its answer
 pub record Writes (P : Program) (job : List ℕ) (n : ℕ) (b : List ℕ) : Type 0 where

@@ -8,9 +8,8 @@ use Rattle.map.specs.Sizes.{sizeOf, wordsOf}
 use Rattle.map.specs.Jobs.{States}
 use Rattle.map.specs.declared.Job.{Job}
 use Rattle.map.specs.declared.Site.{Site}
-use Rattle.model.specs.Framing.{frame}
 use Rattle.model.specs.Limits.{maxPlaces, maxArcs}
-use Rattle.model.specs.Refusals.{roomRows, firstThatHolds, inputRefusal, Accepted}
+use Rattle.model.specs.Refusals.{roomRows, firstThatHolds, Accepted}
 use Rattle.model.specs.Endings.{Ending}
 use Rattle.model.specs.Answer as model
 use Rattle.model.specs.Answer.{Result, answer, sheetOf, overFront, endedWith}
@@ -21,12 +20,7 @@ use Rattle.sheet_writer.specs.Write.{FitsNoRoute, FitsRoute}
 use Rattle.answer.specs.Numbers.{answerOf}
 use Rattle.answer.specs.declared.Answer.{Answer}
 
--- no condition of the input itself holds, and the job is what it states
-pub record Passes (input : List ℕ) (j : Job) : Type 0 where
-  pub number : inputRefusal (frame input) ≡ 0
-  pub states : States input j
-
--- nor does one of what is lent
+-- no condition of the input holds, nor one of what is lent, and the job is what it states
 pub record HasRoom (input : List ℕ) (j : Job) (work sheet : List ℕ) : Type 0 where
   pub accepted : Accepted input (length work) (length sheet)
   pub states : States input j

@@ -9,8 +9,9 @@ ghost use mathlib.Core.Path.{_≡_};
 ghost use Prim.Native.Nat.{_≤_};
 ghost use Rattle.model.specs.Limits.{maxPlaces, maxArcs};
 ghost use Rattle.answer.specs.Numbers.{answerOf};
+ghost use Rattle.judge.specs.Judge.{Passes};
 ghost use Rattle.router.specs.Call.{Routed, RoutedFor};
-ghost use Rattle.router.specs.Steps.{Passes, HasRoom, roomNumber, Writable, Written, numbersOf, Concludable, Concluded};
+ghost use Rattle.router.specs.Steps.{HasRoom, roomNumber, Writable, Written, numbersOf, Concludable, Concluded};
 
 // Writes the sheet of a verdict, if it has one, and gives its bytes.
 fn write_sheet(verdict: Verdict, site: Site, work: &[u32], sheet: &mut [u8]) -> u32

@@ -5,8 +5,8 @@ use Prim.Native.Nat.{ℕ, _≤_}
 use native.Mathlib.Omega.{arith}
 use lib.ListN.{length, replicate}
 use Rattle.model.specs.Answer.{overFront}
+use Rattle.area.proofs.Fronts.{cleared}
 use Rattle.router.proofs.Routing.{concluded}
-use Rattle.router.proofs.Words.{cleared}
 use Rattle.router.proofs.conclude.Statement.{statement}
 use Rattle.router.proofs.conclude.Tie as tie
 

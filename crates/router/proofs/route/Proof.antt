@@ -1,6 +1,7 @@
 -- A refusal leaves both areas as they were; an input that passes is as its judgement states.
 use borrow.Author.Needs.{needs}
-use Rattle.router.proofs.Judging.{refused-routed, passes}
+use Rattle.judge.proofs.Passing.{passes}
+use Rattle.router.proofs.Judging.{refused-routed}
 use Rattle.router.proofs.route.Statement.{statement}
 use Rattle.router.proofs.route.Tie as tie
 

@@ -1,6 +1,7 @@
 -- Too little room is refused with the call's own number; with room the input is accepted.
 use borrow.Author.Needs.{needs}
-use Rattle.router.proofs.Lent.{sizes, short-routed, has-room}
+use Rattle.judge.proofs.Passing.{sizes}
+use Rattle.router.proofs.Lent.{short-routed, has-room}
 use Rattle.router.proofs.with_room.Statement.{statement}
 use Rattle.router.proofs.with_room.Tie as tie
 
