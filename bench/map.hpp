@@ -33,29 +33,43 @@ inline void put(std::vector<uint8_t> &out, uint32_t x, int bytes)
         out.push_back(static_cast<uint8_t>(x >> 8 * i));
 }
 
+// what a record's body is put behind
+inline void put_front(std::vector<uint8_t> &out, uint32_t length, uint32_t kind)
+{
+    put(out, length, 2);
+    put(out, kind, 2);
+}
+
+inline void put_arc(std::vector<uint8_t> &out, const Arc &a)
+{
+    bool flat = a.lane_class == plain::none;
+    put_front(out, flat ? 6 : 8, flat ? 2 : 5);
+    for (uint32_t x : {a.from, a.to, flat ? a.cost : a.cost / plain::factors[a.lane_class]})
+        put(out, x, 2);
+    if (!flat)
+        put(out, a.lane_class, 2);
+}
+
+inline void put_estimate(std::vector<uint8_t> &out, uint32_t place, uint32_t estimate)
+{
+    put_front(out, 6, 3);
+    put(out, place, 2);
+    put(out, estimate, 4);
+}
+
 inline std::vector<uint8_t> input_of(const Map &m)
 {
     std::vector<uint8_t> out;
-    auto record = [&](uint32_t length, uint32_t kind) { put(out, length, 2), put(out, kind, 2); };
     uint32_t goals = static_cast<uint32_t>(m.goals.size());
-    record(4, 1);
+    put_front(out, 4, 1);
     put(out, m.places, 2);
     put(out, static_cast<uint32_t>(m.arcs.size()), 2);
-    for (const Arc &a : m.arcs) {
-        bool flat = a.lane_class == plain::none;
-        record(flat ? 6 : 8, flat ? 2 : 5);
-        for (uint32_t x : {a.from, a.to, flat ? a.cost : a.cost / plain::factors[a.lane_class]})
-            put(out, x, 2);
-        if (!flat)
-            put(out, a.lane_class, 2);
-    }
+    for (const Arc &a : m.arcs)
+        put_arc(out, a);
     for (uint32_t v = 0; v < m.places; v++)
-        if (m.estimate[v] != plain::none) {
-            record(6, 3);
-            put(out, v, 2);
-            put(out, m.estimate[v], 4);
-        }
-    record(8 + 2 * goals, 4);
+        if (m.estimate[v] != plain::none)
+            put_estimate(out, v, m.estimate[v]);
+    put_front(out, 8 + 2 * goals, 4);
     put(out, m.start, 2);
     put(out, m.allowance, 4);
     put(out, goals, 2);

@@ -6,7 +6,7 @@
  * A slice is passed as a pointer and a length, counted in elements. What is promised rests on four things that nobody checks:
  * no pointer is null, also where the length is 0; words are aligned as uint32_t is; the areas that a call may write overlap
  * neither each other nor what it reads; and there is stack enough: 64 KiB for r3_sheet, and for r3_route, which puts a route down
- * by a recursion with one call for each of its places, 320 KiB. */
+ * by a recursion with one call for each of its places, 320 KiB; r3_write_map needs no more than r3_route. */
 #ifndef R3_H
 #define R3_H
 
@@ -37,6 +37,15 @@ uint32_t r3_sheet(const uint8_t *sheet, size_t length, uint32_t question);
 #define R3_BYTES R3_BYTES_OF(4096)
 uint32_t r3_route(const uint8_t *input, size_t length, uint32_t *work, size_t words, uint8_t *sheet, size_t bytes,
                   uint32_t *answer, size_t room);
+
+/* libmap_writer.a: writes the map and the job of an input anew: the head, the arcs by from, to, cost, kind and what else they say,
+ * the estimates other than 0 by place, then the job. Inputs that say the same are written alike. The input is read; work and output are
+ * lent to the call; the answer's seven numbers are: number, five zeros, bytes written. The number comes back.
+ * 0: the map is at the front of the output area
+ * 1 to 15 and 20: refused as by r3_route, and neither area has changed; but 15 is for an output area shorter than the input
+ * After 0 the first R3_WORDS_OF(N, M) words of work are 0. No other word or byte changes. */
+uint32_t r3_write_map(const uint8_t *input, size_t length, uint32_t *work, size_t words, uint8_t *output, size_t bytes,
+                      uint32_t *answer, size_t room);
 
 #ifdef __cplusplus
 }

@@ -19,7 +19,7 @@ import sys
 from by_hand import lines, runs
 from edges import ends_of_fields, ends_of_records, refused
 from inputs import Graph, any_estimates, as_measured, classes, damaged, records_before_job, some_graph, some_map
-from reference import ARCS, COST, ESTIMATE, GOALS, ORDER, PLACES, Problem, arc, estimate, head, job, route, u16
+from reference import ARCS, COST, ESTIMATE, GOALS, PLACES, Problem, arc, cleared, estimate, head, job, route, u16
 from ties import along_a_line, ties
 
 DOCUMENT, REFUSALS, ENDS, CONSISTENT, GAPS, OVERSTATING, DAMAGED, FEWEST = range(8)
@@ -35,8 +35,7 @@ def needs(data):
 
 def case(group, data, words, room):
     answer, sheet = route(data, words, room)
-    zeros = 0 if answer[0] in ORDER else needs(data)[0]
-    return NUMBERS.pack(group, len(data), words, room, *answer, zeros) + data + sheet
+    return NUMBERS.pack(group, len(data), words, room, *answer, cleared(data, answer[0])) + data + sheet
 
 
 def documented():

@@ -1,12 +1,10 @@
-// One call by the router and by plain.hpp, on memory lent alike, and whether all that the two leave is the same.
+// One call, exported and by hand, on memory lent alike, and whether all that the two leave is the same.
 #pragma once
 #include <cstdio>
 #include <vector>
 
+#include "calls.hpp"
 #include "lent.h"
-#include "plain.hpp"
-
-#include "r3.h"
 
 // Room for elements of which the last stands right before a page that cannot be touched.
 template <class T> class Area {
@@ -28,35 +26,35 @@ template <class T> class Area {
     std::vector<T> fresh_;
 };
 
-class Comparison {
+template <class Call> class Comparison {
   public:
     static constexpr size_t spare = 256; // how far a caller may lend more than any map needs
 
-    // Whether the router does as plain.hpp does; if not, both answers are printed.
+    // Whether the exported call does as the one by hand does; if not, both answers are printed.
     bool same(const uint8_t *input, size_t length, size_t words, size_t bytes, size_t room)
     {
         const uint8_t *read = input_.put(input, length);
         uint32_t *work = work_.lend(words), *work_by_hand = other_work_.lend(words);
-        uint8_t *sheet = sheet_.lend(bytes), *sheet_by_hand = other_sheet_.lend(bytes);
+        uint8_t *out = out_.lend(bytes), *out_by_hand = other_out_.lend(bytes);
         uint32_t *numbers = numbers_.lend(room), *numbers_by_hand = other_numbers_.lend(room);
-        uint32_t number = r3_route(read, length, work, words, sheet, bytes, numbers, room);
-        answer = router_.route(input, length, work_by_hand, words, sheet_by_hand, bytes);
-        written = sheet;
+        uint32_t number = Call::exported(read, length, work, words, out, bytes, numbers, room);
+        answer = call_.by_hand(input, length, work_by_hand, words, out_by_hand, bytes);
+        written = out;
         std::copy_n(answer.numbers().begin(), std::min<size_t>(room, 7), numbers_by_hand);
         bool all = check(number == answer.number && std::equal(numbers, numbers + room, numbers_by_hand), "answers");
         all &= check(std::equal(read, read + length, input), "inputs");
         all &= check(std::equal(work, work + words, work_by_hand), "work areas");
-        all &= check(std::equal(sheet, sheet + bytes, sheet_by_hand), "sheet areas");
+        all &= check(std::equal(out, out + bytes, out_by_hand), "output areas");
         for (size_t i = 0; !all && i < room; i++)
             std::fprintf(stderr, "answer, word %zu: %u, by hand %u\n", i, numbers[i], numbers_by_hand[i]);
         return all;
     }
 
     // whether the route of the last call would be another if arcs were not counted
-    bool arcs_decide() const { return answer.number == 0 && router_.arcs_decide(); }
+    bool arcs_decide() const { return answer.number == 0 && call_.arcs_decide(); }
 
     plain::Answer answer;             // by hand, of the last call
-    const uint8_t *written = nullptr; // the router's sheet area after it
+    const uint8_t *written = nullptr; // the exported one's output area after it
 
   private:
     static bool check(bool same, const char *what)
@@ -66,7 +64,7 @@ class Comparison {
         return same;
     }
 
-    plain::Router router_;
-    Area<uint8_t> input_{1 << 18}, sheet_{R3_BYTES + spare}, other_sheet_{R3_BYTES + spare};
+    Call call_;
+    Area<uint8_t> input_{1 << 18}, out_{Call::most_bytes + spare}, other_out_{Call::most_bytes + spare};
     Area<uint32_t> work_{R3_WORDS + spare}, other_work_{R3_WORDS + spare}, numbers_{9}, other_numbers_{9};
 };

@@ -1,7 +1,8 @@
 #!/usr/bin/env python3
-"""Tests the examples and tests/listing.py, and runs program `route` on the examples if it is given: examples.py [PROGRAM]
+"""Tests the examples and tests/listing.py, and runs programs `route` and `write_map` on the examples if they are given: examples.py [ROUTE WRITE_MAP]
 
-An example is examples/NAME, an input, and examples/NAME.txt, its listing with a comment that says what the program prints."""
+An example is examples/NAME, an input, and examples/NAME.txt, its listing with a comment that says what `route` prints, and for some of them what
+`write_map` makes of it."""
 import pathlib
 import random
 import re
@@ -10,12 +11,15 @@ import sys
 
 from inputs import damaged, some_map
 from listing import listing, records, statements
-from program import SHEET, WORK, by_hand, printed, run
+from program import SHEET, WORK, by_hand, printed
 from reference import Problem, refusal
+from streams import run
+from write_program import printed as written
 
 TESTS = pathlib.Path(__file__).parent
 EXAMPLES = TESTS.parent / 'examples'
 CLAIM = re.compile(r'Program route prints.*\n((?:#     [0-9 ]+\n)+)')
+WRITTEN = re.compile(r'Program write_map makes examples/(\S+) of it')
 
 # listings with the bytes that they give, in hex
 GOOD = [
@@ -74,7 +78,7 @@ def overstates(data):
     return False
 
 
-def example(path, program):
+def example(path, route, write_map):
     """what is wrong with an example"""
     text, data = path.read_text(), path.with_suffix('').read_bytes()
     if command('records', text.encode()) != (0, data, ''):
@@ -86,17 +90,25 @@ def example(path, program):
     claim = claim and claim[1].replace('#     ', '')
     if claim != printed(data):
         yield f'the comment says {claim!r}, the second source {printed(data)!r}'
-    if program and claim != run(program, [data]):
-        yield f'the comment says {claim!r}, the program {run(program, [data])!r}'
+    if route and run(route, [data]) != ((claim or '').encode(), b''):
+        yield f'the comment says {claim!r}, the program {run(route, [data])}'
     if not refusal(data, WORK, SHEET) and overstates(data):
         yield 'an estimate overstates'
+    if name := WRITTEN.search(text):
+        want = (EXAMPLES / name[1]).read_bytes(), b''
+        if written(data) != want or write_map and run(write_map, [data]) != want:
+            yield f'{name[1]} is not what is written'
+        if printed(data) != printed(want[0]):
+            yield f'route prints something else for {name[1]}'
 
 
-def examples(paths, program):
+def examples(paths, route, write_map):
     for path in paths:
-        yield from (f'{path.stem}: {fault}' for fault in example(path, program))
+        yield from (f'{path.stem}: {fault}' for fault in example(path, route, write_map))
     if len(list(EXAMPLES.iterdir())) != 2 * len(paths):
         yield 'a file in examples/ is no part of an example'
+    if not any(WRITTEN.search(path.read_text()) for path in paths):
+        yield 'no example says what write_map makes of it'
 
 
 def round_trips(samples):
@@ -119,9 +131,9 @@ def inputs(rnd):
         yield from (b''.join(whole), damaged(rnd, whole), rnd.randbytes(rnd.randrange(40)))
 
 
-def main(program=None):
+def main(route=None, write_map=None):
     paths, samples = sorted(EXAMPLES.glob('*.txt')), list(inputs(random.Random(4)))
-    wrong = [*examples(paths, program), *round_trips(samples), *by_command()]
+    wrong = [*examples(paths, route, write_map), *round_trips(samples), *by_command()]
     print(*wrong, f'examples: {len(paths)} examples, {len(samples)} inputs, {len(GOOD) + len(BAD)} listings, {len(wrong)} wrong', sep='\n')
     return wrong != [] or not paths or not samples
 

@@ -9,7 +9,7 @@ extern "C" int LLVMFuzzerTestOneInput(const uint8_t *data, size_t size)
 {
     constexpr size_t most = 1 << 17;
     static uint8_t *const end = page_end(most);
-    static Tally tally{0, 17, 18, 19};
+    static LastTally tally("answers", {0, 17, 18, 19});
     if (size > most)
         return 0;
     uint8_t *sheet = end - size;

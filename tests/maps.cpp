@@ -57,9 +57,9 @@ class Test {
         std::vector<uint8_t> input = input_of(map_);
         size_t words = R3_WORDS_OF(map_.places, map_.arcs.size()), bytes = R3_BYTES_OF(map_.places);
         if (below(3) == 0)
-            words += below(Comparison::spare + 1);
+            words += below(Comparison<Routing>::spare + 1);
         if (below(3) == 0)
-            bytes += below(Comparison::spare + 1);
+            bytes += below(Comparison<Routing>::spare + 1);
         bool same = comparison_.same(input.data(), input.size(), words, bytes, 9);
         counts_[{map_.name, comparison_.answer.number}]++;
         return same;
@@ -85,7 +85,7 @@ class Test {
         uint32_t at = plain::u16(sheet + 10), cost = 0;
         if (at != map_.start)
             return false;
-        for (uint32_t i = 12; i < comparison_.answer.sheet_bytes; i += 2) {
+        for (uint32_t i = 12; i < comparison_.answer.bytes; i += 2) {
             uint32_t next = plain::u16(sheet + i), least = plain::none;
             for (const Arc &a : map_.arcs)
                 if (a.from == at && a.to == next)
@@ -101,7 +101,7 @@ class Test {
     uint32_t decided_ = 0;
     Maps maps_;
     Map map_;
-    Comparison comparison_;
+    Comparison<Routing> comparison_;
     std::map<std::pair<std::string, uint32_t>, uint32_t> counts_;
 };
 

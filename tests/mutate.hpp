@@ -1,21 +1,16 @@
-// A mutator that knows records, for the fuzzer: most changes of single bytes break an input's framing, or leave an arc without its place.
+// A mutator that knows records: most changes of single bytes break an input's framing, or leave an arc without its place.
 #pragma once
+#include <algorithm>
 #include <random>
-#include <vector>
 
-#include "plain.hpp"
-
-extern "C" size_t LLVMFuzzerMutate(uint8_t *data, size_t size, size_t most);
+#include "records.hpp"
 
 class Mutator {
   public:
-    Mutator(const uint8_t *input, size_t length, unsigned seed) : chance_(seed)
-    {
-        for (size_t at = 0; at < length; at += records_.back().size()) { // what is left where the framing breaks is the last one
-            size_t left = length - at, whole = left < 4 ? left : std::min<size_t>(left, 4 + plain::u16(input + at));
-            records_.emplace_back(input + at, input + at + whole);
-        }
-    }
+    // changes so many bytes in place, as the fuzzer's LLVMFuzzerMutate does
+    using Change = size_t(uint8_t *data, size_t size, size_t most);
+
+    Mutator(Records records, unsigned seed, Change *change_bytes) : chance_(seed), change_bytes_(change_bytes), records_(std::move(records)) {}
     uint32_t below(size_t n) { return static_cast<uint32_t>(chance_() % n); }
     bool empty() const { return records_.empty(); }
 
@@ -28,7 +23,7 @@ class Mutator {
         else if (way < 4)
             records_.erase(i);
         else if (way < 8)
-            change(*records_.insert(i, Record(*j))); // one more arc or estimate, like another
+            change(*records_.insert(i, Bytes(*j))); // one more arc or estimate, like another
         else if (way < 9)
             change(records_.front());
         else if (way < 11)
@@ -40,13 +35,10 @@ class Mutator {
     // mostly with the number of arcs in the head
     size_t write(uint8_t *out, size_t most)
     {
-        uint32_t arcs = 0;
-        for (const Record &r : records_)
-            arcs += (r.size() == 10 && r[2] == 2) || (r.size() == 12 && r[2] == 5);
         if (!empty() && records_[0].size() == 8 && below(32) != 0)
-            plain::put16(&records_[0][6], arcs);
+            count_arcs(records_);
         size_t length = 0;
-        for (const Record &r : records_)
+        for (const Bytes &r : records_)
             if (length + r.size() <= most) {
                 std::copy(r.begin(), r.end(), out + length);
                 length += r.size();
@@ -55,13 +47,11 @@ class Mutator {
     }
 
   private:
-    using Record = std::vector<uint8_t>;
-
     // mostly neither the head nor the job
     long middle() { return records_.size() > 2 && below(32) != 0 ? 1 + below(records_.size() - 2) : below(records_.size()); }
 
     // gives a field, or half of a longer one, another number
-    void change(Record &r)
+    void change(Bytes &r)
     {
         if (r.size() < 6)
             return;
@@ -69,7 +59,7 @@ class Mutator {
         uint32_t places = records_[0].size() >= 6 ? plain::u16(&records_[0][4]) : 0;
         switch (below(16)) {
         case 0:
-            LLVMFuzzerMutate(field, 2, 2);
+            change_bytes_(field, 2, 2);
             break;
         case 1:
             r[2] ^= 1; // an arc to an estimate and back
@@ -83,7 +73,7 @@ class Mutator {
     }
 
     // gives an arc a class, or takes it away
-    void change_kind(Record &r)
+    void change_kind(Bytes &r)
     {
         if (r.size() == 10 && r[2] == 2) {
             r.resize(12);
@@ -98,5 +88,6 @@ class Mutator {
     }
 
     std::minstd_rand chance_;
-    std::vector<Record> records_;
+    Change *change_bytes_;
+    Records records_;
 };

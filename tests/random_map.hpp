@@ -27,6 +27,30 @@ class Maps {
         return m;
     }
 
+    // adds arcs beside those that there are: the same once more, of another kind or class at the same cost, or at another cost
+    void add_twins(Map &m)
+    {
+        size_t count = std::min<size_t>(m.arcs.empty() ? 0 : below(m.arcs.size() + 4), 16384 - m.arcs.size());
+        for (size_t i = 0; i < count; i++) {
+            Arc twin = m.arcs[below(m.arcs.size())];
+            uint32_t way = below(3);
+            if (way == 0)
+                twin.cost = 1 + below(std::min(2 * twin.cost, 65535u));
+            if (way != 1)
+                twin.lane_class = some_class(twin.cost);
+            m.arcs.push_back(twin);
+        }
+    }
+
+    // none for half of the arcs
+    uint32_t some_class(uint32_t cost)
+    {
+        std::vector<uint32_t> all = classes(cost);
+        return all.empty() || below(2) == 0 ? plain::none : all[below(all.size())];
+    }
+
+    template <class At> void shuffle(At first, At last) { std::shuffle(first, last, chance_); }
+
   private:
     void add_goals(Map &m, uint32_t count)
     {
@@ -56,13 +80,6 @@ class Maps {
         auto to_goal = [&](const Arc &a) { return std::binary_search(m.goals.begin(), m.goals.end(), a.to); };
         if (below(8) == 0) // no goal can be reached, unless it is the start
             m.arcs.erase(std::remove_if(m.arcs.begin(), m.arcs.end(), to_goal), m.arcs.end());
-    }
-
-    // none for half of the arcs
-    uint32_t some_class(uint32_t cost)
-    {
-        std::vector<uint32_t> all = classes(cost);
-        return all.empty() || below(2) == 0 ? plain::none : all[below(all.size())];
     }
 
     void add_estimates(Map &m, Kind kind, uint32_t dear)

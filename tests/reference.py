@@ -1,5 +1,5 @@
-"""Document 01 and document 02's papers 1 and 2 once more, in Python and as plainly as possible: the second source that tests hold the router's
-answers against."""
+"""Document 01 and document 02's papers 1 to 3 once more, in Python and as plainly as possible: the second source that tests hold the answers of
+the router and of the map writer against."""
 import heapq
 
 PLACES, ARCS, COST, ESTIMATE, GOALS = 4096, 16384, 65535, 268435455, 64
@@ -78,8 +78,13 @@ def cost_of(kind, body):
     return u16(body, 4) if kind == 2 else u16(body, 4) * FACTORS[u16(body, 6)]
 
 
-def refusal(data, words, sheet):
-    """the first number in the order whose condition holds, or 0"""
+def sheet_bytes(data):
+    """how long a sheet of the map may be"""
+    return 10 + 2 * u16(data, 4)
+
+
+def refusal(data, words, room, asked=sheet_bytes):
+    """the first number in the order whose condition holds, or 0; asked: from an accepted input to the bytes that the call asks for"""
     records, broken = frame(data)
     if broken:
         return 1
@@ -117,7 +122,12 @@ def refusal(data, words, sheet):
         return 13
     if words < 16 * n + 2 * m:
         return 14
-    return 15 if sheet < 10 + 2 * n else 0
+    return 15 if room < asked(data) else 0
+
+
+def cleared(data, number):
+    """how many work words are 0 after the call; no other word changes, and no byte but those that the answer counts"""
+    return 0 if number in ORDER else 16 * u16(data, 4) + 2 * u16(data, 6)
 
 
 class Problem:
@@ -173,9 +183,9 @@ class Problem:
         return least[goal][0], places
 
 
-def route(data, words, sheet):
+def route(data, words, room):
     """the seven numbers and the sheet's bytes"""
-    number = refusal(data, words, sheet)
+    number = refusal(data, words, room)
     if number:
         return (number, 0, 0, 0, 0, 0, 0), b''
     p = Problem(data)
@@ -200,3 +210,21 @@ def route(data, words, sheet):
             high = limit
         if low == high:
             b, high = 2 * b, None
+
+
+def arc_order(lane):
+    """by from, to, cost, kind and the remaining fields"""
+    kind, body = lane
+    return u16(body, 0), u16(body, 2), cost_of(kind, body), kind, [u16(body, i) for i in range(4, len(body), 2)]
+
+
+def write_map(data, words, room):
+    """the seven numbers and the map's bytes"""
+    number = refusal(data, words, room, len)
+    if number:
+        return (number, 0, 0, 0, 0, 0, 0), b''
+    (first, *middle, last), _ = frame(data)
+    arcs = sorted((r for r in middle if is_arc(r[0])), key=arc_order)
+    estimates = sorted((u16(b, 0), u32(b, 2)) for kind, b in middle if kind == 3 and u32(b, 2) != 0)
+    out = b''.join([record(*first), *(record(*a) for a in arcs), *(estimate(*e) for e in estimates), record(*last)])
+    return (0, 0, 0, 0, 0, 0, len(out)), out

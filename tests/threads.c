@@ -1,5 +1,5 @@
-/* Runs the exported calls in several threads at once, each on just the stack that r3.h names: the longest route that a map can have, and the
- * reading of its sheet. Every thread must come to the same answer, which is known. */
+/* Runs the exported calls in several threads at once, each on just the stack that r3.h names: the longest route that a map can have, the reading of
+ * its sheet, and the writing of its map. Every thread must come to the same answer, which is known. */
 #define _DEFAULT_SOURCE
 #include <pthread.h>
 #include <string.h>
@@ -7,13 +7,14 @@
 #include "lent.h"
 #include "r3.h"
 
-enum { PLACES = 4096, COST = 65535, THREADS = 4, CALLS = 8, ROUTE_STACK = 320 << 10, SHEET_STACK = 64 << 10 };
+enum { PLACES = 4096, COST = 65535, THREADS = 4, CALLS = 8, ROUTE_STACK = 320 << 10, WRITE_STACK = ROUTE_STACK, SHEET_STACK = 64 << 10 };
+enum { HEAD = 8, ARC = 10, JOB = 14, INPUT = HEAD + ARC * (PLACES - 1) + JOB };
 
-static uint8_t input[10 * PLACES + 40];
+static uint8_t input[INPUT];
 static size_t length;
 
 struct Job {
-    uint8_t sheet[R3_BYTES];
+    uint8_t sheet[R3_BYTES], output[INPUT];
     uint32_t work[R3_WORDS_OF(PLACES, PLACES - 1)];
     int right;
 };
@@ -32,12 +33,12 @@ static void put_record(uint32_t kind, const uint32_t *fields, uint32_t count)
         put16(fields[i]);
 }
 
-/* one chain through all places, each arc as dear as it may be */
+/* one chain through all places, each arc as dear as it may be; the last arc of the chain is the first record */
 static void make_chain(void)
 {
     uint32_t allowance = 236 * PLACES;
     put_record(1, (uint32_t[]){PLACES, PLACES - 1}, 2);
-    for (uint32_t v = 0; v + 1 < PLACES; v++)
+    for (uint32_t v = PLACES - 1; v-- > 0;)
         put_record(2, (uint32_t[]){v, v + 1, COST}, 3);
     put_record(4, (uint32_t[]){0, allowance & 0xffff, allowance >> 16, 1, PLACES - 1}, 5);
 }
@@ -59,6 +60,20 @@ static void *read_sheet(void *p)
     job->right &= r3_sheet(job->sheet, R3_BYTES, 0) == 0 && r3_sheet(job->sheet, R3_BYTES, 2) == PLACES;
     for (uint32_t i = 0; i < PLACES; i += 63)
         job->right &= r3_sheet(job->sheet, R3_BYTES, 3 + i) == i;
+    return NULL;
+}
+
+static void *write_map(void *p)
+{
+    struct Job *job = p;
+    for (int i = 0; i < CALLS; i++) {
+        uint32_t answer[7];
+        uint32_t number = r3_write_map(input, length, job->work, sizeof job->work / 4, job->output, INPUT, answer, 7);
+        job->right &= number == 0 && answer[6] == INPUT && memcmp(job->output, input, HEAD) == 0;
+        for (size_t at = HEAD, from = INPUT - JOB - ARC; at < INPUT - JOB; at += ARC, from -= ARC) /* the arcs the other way round */
+            job->right &= memcmp(job->output + at, input + from, ARC) == 0;
+        job->right &= memcmp(job->output + INPUT - JOB, input + INPUT - JOB, JOB) == 0;
+    }
     return NULL;
 }
 
@@ -88,7 +103,7 @@ int main(void)
         memset(&jobs[i], 0xee, sizeof jobs[i]);
         jobs[i].right = 1;
     }
-    int ran = run_all(route, jobs, ROUTE_STACK) && run_all(read_sheet, jobs, SHEET_STACK), right = 0;
+    int ran = run_all(route, jobs, ROUTE_STACK) && run_all(read_sheet, jobs, SHEET_STACK) && run_all(write_map, jobs, WRITE_STACK), right = 0;
     for (int i = 0; i < THREADS; i++)
         right += jobs[i].right;
     printf("threads: %d, right: %d\n", THREADS, right);

@@ -1,4 +1,4 @@
--- All demands hold of the router's calls, as their contracts give them. Assumes nothing.
+-- All demands hold of the router's calls, and all promises of the map writer's, as their contracts give them. Assumes nothing.
 use mathlib.Core.Path.{_≡_, refl, sym, ap, _∙_}
 use mathlib.Core.List.{List}
 use Prim.Native.Nat.{ℕ, _≤_}
@@ -7,11 +7,13 @@ use lib.ListN.{length, take, replicate}
 use lib.Seq.{take-all}
 use Rattle.model.specs.Answer as model
 use Rattle.model.specs.Answer.{Result, overFront}
-use Rattle.model.specs.Calls.{result, Keeps}
+use Rattle.model.specs.Calls.{result, KeepsTo, Keeps}
 use Rattle.model.proofs.Demands.{Demands, demands}
 use Rattle.answer.specs.Numbers.{seven}
 use Rattle.answer.specs.declared.Answer.{Answer}
+use Rattle.map_writer.proofs.Promises.{rewritten, Promises, promises}
 use Rattle.demands.specs.Calls.{Routes, Exports, answerIn}
+use Rattle.demands.specs.WriterCalls.{WritesMap, ExportsMap}
 
 -- the code's answer with these numbers
 answerWith : model.Answer → Answer
@@ -69,3 +71,35 @@ exports-keeps = record {
 -- and of the call that is exported for C.
 pub exported-demands : Demands Exports
 exported-demands = demands Exports exports-keeps
+
+writes-map-keeps : KeepsTo rewritten WritesMap
+unfolding answerWith
+writes-map-keeps = record {
+  gives = λ c. record { code = answerWith (rewritten c .answer); numbers = refl; contract = record { result = refl } };
+  only = λ c r g. same-result r _ (sym (g .numbers)) refl refl ∙ g .contract .result;
+}
+
+-- All promises hold of map_writer::write, beside router::route.
+pub writer-promises : Promises WritesMap Routes
+writer-promises = promises WritesMap Routes writes-map-keeps routes-keeps
+
+exports-map-keeps : KeepsTo rewritten ExportsMap
+unfolding answerIn overFront
+exports-map-keeps = record {
+  gives = λ c.
+      record {
+        lent = replicate 7 0;
+        words = seven (rewritten c .answer);
+        room = omega arith;
+        numbers = refl;
+        contract = record { gives = refl; leaves-work = refl; leaves-output = refl; leaves-answer = refl };
+      };
+  only = λ c r g.
+      let k = g .contract in
+      let numbers = sym (g .numbers) ∙ ap answerIn (k .leaves-answer) ∙ seven-in (rewritten c .answer) (g .lent) (g .room) in
+      same-result r (rewritten c) numbers (k .leaves-work) (k .leaves-output);
+}
+
+-- and of the call that is exported for C.
+pub exported-writer-promises : Promises ExportsMap Exports
+exported-writer-promises = promises ExportsMap Exports exports-map-keeps exports-keeps

@@ -4,8 +4,8 @@ use mathlib.Core.List.{[], _∷_, _++_}
 use lib.ListN.{replicate}
 use Rattle.model.specs.Jobs.{putHead, putArc, putJob}
 use Rattle.model.proofs.Compute.{compute}
-use Rattle.text.specs.Text.{decimalUpTo, decimal, parted, line}
-use Rattle.route.specs.Printed.{placesOn, textOf, answered, tooLong, printed}
+use Rattle.text.specs.Text.{decimalUpTo, decimal, parted, line, tooLong}
+use Rattle.route.specs.Printed.{placesOn, textOf, answered, printed}
 
 -- no record at all: "4 0 0 0 0 0"
 nothing : printed [] ≡ 52 ∷ 32 ∷ 48 ∷ 32 ∷ 48 ∷ 32 ∷ 48 ∷ 32 ∷ 48 ∷ 32 ∷ 48 ∷ 10 ∷ []

@@ -5,9 +5,9 @@ use Prim.Native.Nat.{ℕ, _≤_, _<_}
 use lib.ListN.{length, take}
 use borrow.Author.Tests.{lt-ltb, le-ltb, eq-eqb, ne-eqb}
 use Rattle.model.specs.Answer.{Result}
-use Rattle.text.specs.Text.{line, Put}
+use Rattle.text.specs.Text.{line, tooLong, Put}
 use Rattle.text.proofs.Puts.{front-within, put-front}
-use Rattle.route.specs.Printed.{six, placesOn, textOf, answered, tooLong, printed, Prints}
+use Rattle.route.specs.Printed.{six, placesOn, textOf, answered, printed, Prints}
 
 pub one-line : (r : Result) → (r .answer .number ≡ 0 → ⊥) → textOf r ≡ line (six (r .answer))
 unfolding textOf

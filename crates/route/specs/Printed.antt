@@ -8,7 +8,7 @@ use lib.Dec.{ltb, eqb}
 use lib.ListN.{length, take, replicate}
 use Rattle.sheet_reader.specs.Sheets.{readSheet}
 use Rattle.model.specs.Answer.{Answer, Result, route}
-use Rattle.text.specs.Text.{line, Put}
+use Rattle.text.specs.Text.{line, tooLong, Put}
 
 -- the numbers of line one
 abbrev pub six : Answer → List ℕ
@@ -26,10 +26,6 @@ textOf r =
 -- "with a work area of 16,384 words and a sheet area of 8,202 bytes"
 unfoldable pub answered : List ℕ → Result
 answered input = route input (replicate 16384 0) (replicate 8202 0)
-
--- the ASCII of `too long` and a line feed
-abbrev pub tooLong : List ℕ
-tooLong = 116 ∷ 111 ∷ 111 ∷ 32 ∷ 108 ∷ 111 ∷ 110 ∷ 103 ∷ 10 ∷ []
 
 -- "at most 65,536 bytes"
 unfoldable pub printed : List ℕ → List ℕ

@@ -36,6 +36,10 @@ inLine (suc i) x = blank ∷ decimal x
 unfoldable pub line : List ℕ → List ℕ
 line xs = parted xs ++ (lineFeed ∷ [])
 
+-- the ASCII of `too long` and a line feed, which the programs say of an input that is longer than they take
+abbrev pub tooLong : List ℕ
+tooLong = 116 ∷ 111 ∷ 111 ∷ 32 ∷ 108 ∷ 111 ∷ 110 ∷ 103 ∷ lineFeed ∷ []
+
 -- What a function that puts bytes into a text at a position leaves: the new bytes there, and nothing else changed. The position after them
 -- comes back.
 pub record Put (new : List ℕ) (at : ℕ) (old text : List ℕ) (r : ℕ) : Type 0 where

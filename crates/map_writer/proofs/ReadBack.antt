@@ -1,0 +1,180 @@
+-- What is written as records is stated again by them, where its fields fit in their bytes. Assumes nothing.
+use mathlib.Core.Path.{_≡_, refl, sym, ap, ap₂, _∙_}
+use mathlib.Core.Bool.{false, not}
+use mathlib.Core.List.{List, [], _∷_, _++_, map, headD, append-nil, List·Memᴰ, List·Memᴰ·head, List·Memᴰ·tail}
+use mathlib.Core.Option.{Option, none, some}
+use Prim.Native.Nat.{ℕ, zero, suc, _<_}
+use native.Mathlib.Omega.{arith}
+use lib.Dec.{eqb}
+use lib.ListN.{length, getD}
+use borrow.Author.Tests.{eq-eqb}
+use Rattle.model.specs.Lists.{any, filterMap, consIf}
+use Rattle.model.specs.Bytes.{u16, u32, u16s, put16, put32, put16s}
+use Rattle.model.specs.Framing.{Record, Framed}
+use Rattle.model.specs.Items.{Size, Charge, flat, measured, Lane, Estimate, Job, Item, head, lane, estimate, job}
+use Rattle.model.specs.Items.{headOf, laneOf, measuredOf, estimateOf, jobOf, itemOf, items, sizeIn, laneIn, estimateIn, jobIn}
+use Rattle.model.specs.Items.{chargeBytes, bodyLength, otherThan, misfits}
+use Rattle.model.specs.Stated.{Stated, noJob, statedBy, stated, statedIn}
+use Rattle.model.specs.Refusals.{wrongLength}
+use Rattle.model.proofs.Bytes.{two-bytes, u16-put16, u32-put32, u16s-put16s}
+use Rattle.model.proofs.Tests.{or-none}
+use Rattle.map_writer.specs.Canonical.{putStated}
+pub use Rattle.map_writer.proofs.WrittenRecords.{StorableCharge, StorableLane, StorableEstimate, StorableJob, Storable}
+pub use Rattle.map_writer.proofs.WrittenRecords.{headRecord, chargedRecord, laneRecord, estimateRecord, jobRecord, recordsOf}
+pub use Rattle.map_writer.proofs.WrittenRecords.{put-records, put-bytes, put-framed}
+use Rattle.map_writer.proofs.WrittenRecords.{jobFront, job-length}
+
+-- ---- the fields are read back
+
+size-read : (s : Size) → s .places < 65536 → s .arcs < 65536 → itemOf (headRecord s) ≡ head s
+unfolding headRecord itemOf headOf u16 put16
+size-read s p a = rw (two-bytes (s .places) p, two-bytes (s .arcs) a)
+
+lane-read : (l : Lane) → StorableLane l → itemOf (laneRecord l) ≡ lane l
+unfolding laneRecord chargedRecord itemOf laneOf measuredOf u16 put16
+lane-read l ok = go (l .charge) (ok .charge)
+  where
+    go : (c : Charge) → StorableCharge c
+        → itemOf (chargedRecord (l .from) (l .to) c) ≡ lane (record { from = l .from; to = l .to; charge = c })
+    go (flat cost) c = rw (two-bytes (l .from) (ok .from), two-bytes (l .to) (ok .to), two-bytes cost c)
+    go (measured length class) (h, k) =
+        rw (two-bytes (l .from) (ok .from), two-bytes (l .to) (ok .to), two-bytes length h, two-bytes class k)
+
+estimate-read : (e : Estimate) → StorableEstimate e → itemOf (estimateRecord e) ≡ estimate e
+unfolding estimateRecord itemOf estimateOf put16
+estimate-read e ok =
+    let b : List ℕ = put16 (e .place) ++ put32 (e .value) in
+    let place : u16 b 0 ≡ e .place = u16-put16 [] (e .place) (put32 (e .value)) (ok .place) in
+    let value : u32 b 2 ≡ e .value = rw append-nil at (u32-put32 (put16 (e .place)) (e .value) [] (ok .value)) in
+    rw (place, value)
+
+members-below : (gs : List ℕ) → ((g : ℕ) → List·Memᴰ g gs → g < 65536) → (i : ℕ) → getD gs i 0 < 65536
+members-below [] h i = omega arith
+members-below (g ∷ gs) h zero = h g (List·Memᴰ·head refl)
+members-below (g ∷ gs) h (suc i) = members-below gs (λ x j. h x (List·Memᴰ·tail j)) i
+
+job-read : (j : Job) → StorableJob j → itemOf (jobRecord j) ≡ job j
+unfolding jobRecord itemOf jobOf put16 put32
+job-read j ok =
+    let b : List ℕ = jobFront j ++ put16s (j .goals) in
+    let k : ℕ = length (j .goals) in
+    let rest : List ℕ = put16 k ++ put16s (j .goals) in
+    let start : u16 b 0 ≡ j .start
+    = u16-put16 [] (j .start) (put32 (j .allowance) ++ rest) (ok .start) in
+    let allowance : u32 b 2 ≡ j .allowance
+    = u32-put32 (put16 (j .start)) (j .allowance) rest (ok .allowance) in
+    let count : u16 b 6 ≡ k
+    = u16-put16 (put16 (j .start) ++ put32 (j .allowance)) k (put16s (j .goals)) (omega (arith, ok .few-goals)) in
+    let goals : u16s k b 8 ≡ j .goals
+    = rw append-nil at (u16s-put16s (jobFront j) (j .goals) [] (members-below (j .goals) (ok .goals))) in
+    rw (start, allowance, count, goals)
+
+-- ---- what the records say
+
+unfoldable pub itemsOf : Stated → List Item
+itemsOf t = head (t .size) ∷ (map lane (t .lanes) ++ (map estimate (t .estimates) ++ (job (t .job) ∷ [])))
+
+-- records that each say what g gives, before others
+module _ {A : Type 0} (f : A → Record) (g : A → Item) where
+  each-said : (xs : List A) → ((x : A) → List·Memᴰ x xs → itemOf (f x) ≡ g x) → (rs : List Record)
+      → items (map f xs ++ rs) ≡ map g xs ++ items rs
+  unfolding items
+  each-said [] h rs = refl
+  each-said (x ∷ xs) h rs =
+      ap₂ {C = List Item} _∷_ (h x (List·Memᴰ·head refl)) (each-said xs (λ y i. h y (List·Memᴰ·tail i)) rs)
+
+-- each record says what it was written of
+pub items-said : (t : Stated) → Storable t → items (recordsOf t) ≡ itemsOf t
+unfolding items recordsOf itemsOf
+items-said t ok =
+    let size = size-read (t .size) (ok .places) (ok .arcs) in
+    let lanes = each-said laneRecord lane (t .lanes) (λ l i. lane-read l (ok .lanes l i)) in
+    let estimates = each-said estimateRecord estimate (t .estimates) (λ e i. estimate-read e (ok .estimates e i)) in
+    let last : items (jobRecord (t .job) ∷ []) ≡ job (t .job) ∷ [] = rw (job-read (t .job) (ok .job)) in
+    let later : items (map estimateRecord (t .estimates) ++ (jobRecord (t .job) ∷ [])) ≡ map estimate (t .estimates) ++ (job (t .job) ∷ [])
+    = estimates (jobRecord (t .job) ∷ []) ∙ ap (λ (is : List Item). map estimate (t .estimates) ++ is) last in
+    let all = lanes (map estimateRecord (t .estimates) ++ (jobRecord (t .job) ∷ [])) ∙ ap (λ (is : List Item). map lane (t .lanes) ++ is) later in
+    ap₂ {C = List Item} _∷_ size all
+
+-- items of which a choice takes none, or takes what each is of
+module _ {A B : Type 0} (g : A → Item) (f : Item → Option B) (none-of : (x : A) → f (g x) ≡ none) where
+  pub none-taken : (xs : List A) (is : List Item) → filterMap f (map g xs ++ is) ≡ filterMap f is
+  unfolding filterMap consIf
+  none-taken [] is = refl
+  none-taken (x ∷ xs) is = rw (none-of x) (none-taken xs is)
+
+module _ {A : Type 0} (g : A → Item) (f : Item → Option A) (some-of : (x : A) → f (g x) ≡ some x) where
+  all-taken : (xs : List A) (is : List Item) → filterMap f (map g xs ++ is) ≡ xs ++ filterMap f is
+  unfolding filterMap consIf
+  all-taken [] is = refl
+  all-taken (x ∷ xs) is = rw (some-of x) (ap (λ (ys : List A). x ∷ ys) (all-taken xs is))
+
+items-stated : (t : Stated) → Storable t → statedBy (itemsOf t) ≡ t
+unfolding itemsOf statedBy filterMap consIf sizeIn laneIn estimateIn jobIn headD
+items-stated t ok =
+    let last : List Item = job (t .job) ∷ [] in
+    let es : List Item = map estimate (t .estimates) ++ last in
+    let lanes : filterMap laneIn (map lane (t .lanes) ++ es) ≡ t .lanes
+    = all-taken lane laneIn (λ l. refl) (t .lanes) es
+    ∙ rw (none-taken estimate laneIn (λ e. refl) (t .estimates) last) (append-nil (t .lanes)) in
+    let estimates : filterMap estimateIn (map lane (t .lanes) ++ es) ≡ t .estimates
+    = none-taken lane estimateIn (λ l. refl) (t .lanes) es
+    ∙ all-taken estimate estimateIn (λ e. refl) (t .estimates) last
+    ∙ append-nil (t .estimates) in
+    let jobs : filterMap jobIn (map lane (t .lanes) ++ es) ≡ t .job ∷ []
+    = none-taken lane jobIn (λ l. refl) (t .lanes) es ∙ none-taken estimate jobIn (λ e. refl) (t .estimates) last in
+    λ i. record {
+      size = t .size;
+      lanes = lanes i;
+      estimates = estimates i;
+      factors = sym (ok .factors) i;
+      growth = sym (ok .growth) i;
+      job = headD (jobs i) noJob;
+    }
+
+pub records-stated : (t : Stated) → Storable t → stated (recordsOf t) ≡ t
+unfolding stated
+records-stated t ok = ap statedBy (items-said t ok) ∙ items-stated t ok
+
+pub stated-back : (t : Stated) → Storable t → statedIn (putStated t) ≡ t
+stated-back t ok = ap (λ (f : Framed). stated (f .records)) (put-framed t ok) ∙ records-stated t ok
+
+-- ---- each record has the length of its kind
+
+-- records that each fit, before others that do
+module _ {A : Type 0} (f : A → Record) where
+  each-long : (xs : List A) → ((x : A) → List·Memᴰ x xs → misfits (f x) ≡ false) → (rs : List Record)
+      → any misfits rs ≡ false → any misfits (map f xs ++ rs) ≡ false
+  unfolding any
+  each-long [] h rs others = others
+  each-long (x ∷ xs) h rs others =
+      or-none (misfits (f x)) _ (h x (List·Memᴰ·head refl)) (each-long xs (λ y i. h y (List·Memᴰ·tail i)) rs others)
+
+charge-long : (from to : ℕ) (c : Charge) → not (eqb (length (chargedRecord from to c .body)) (chargeBytes c)) ≡ false
+unfolding chargedRecord chargeBytes put16
+charge-long from to (flat cost) = refl
+charge-long from to (measured length class) = refl
+
+lane-long : (l : Lane) → StorableLane l → misfits (laneRecord l) ≡ false
+unfolding misfits bodyLength otherThan laneRecord
+lane-long l ok = rw (lane-read l ok) (charge-long (l .from) (l .to) (l .charge))
+
+head-long : (s : Size) → s .places < 65536 → s .arcs < 65536 → misfits (headRecord s) ≡ false
+unfolding misfits bodyLength otherThan headRecord put16
+head-long s p a = rw (size-read s p a)
+
+estimate-long : (e : Estimate) → StorableEstimate e → misfits (estimateRecord e) ≡ false
+unfolding misfits bodyLength otherThan estimateRecord put16 put32
+estimate-long e ok = rw (estimate-read e ok)
+
+job-long : (j : Job) → StorableJob j → misfits (jobRecord j) ≡ false
+unfolding misfits bodyLength otherThan
+job-long j ok = rw (job-read j ok) (ap not (eq-eqb (length (jobRecord j .body)) _ (job-length j)))
+
+pub lengths-right : (t : Stated) → Storable t → wrongLength (recordsOf t) ≡ false
+unfolding wrongLength recordsOf any
+lengths-right t ok =
+    let job = or-none (misfits (jobRecord (t .job))) _ (job-long (t .job) (ok .job)) refl in
+    let estimates = each-long estimateRecord (t .estimates) (λ e i. estimate-long e (ok .estimates e i)) _ job in
+    let lanes = each-long laneRecord (t .lanes) (λ l i. lane-long l (ok .lanes l i)) _ estimates in
+    or-none (misfits (headRecord (t .size))) _ (head-long (t .size) (ok .places) (ok .arcs)) lanes

@@ -1,0 +1,86 @@
+-- Runs of the writer, computed from the definitions: an input whose lanes are out of order in every field, and inputs at the edge of 14 and 15.
+use mathlib.Core.Path.{_≡_, refl}
+use mathlib.Core.Bool.{Bool, true, false, _&&_}
+use mathlib.Core.List.{List, [], _∷_, _++_, flatMap}
+use Prim.Native.Nat.{ℕ, _-_}
+use lib.Dec.{eqb}
+use lib.ListN.{length, replicate}
+use Rattle.model.specs.Lists.{below}
+use Rattle.model.specs.Jobs.{putHead, putArc, putMeasured, putEstimate, putJob}
+use Rattle.model.proofs.Compute.{compute}
+use Rattle.sort.specs.Sorting.{insert, sortBy}
+use Rattle.map_writer.specs.Order.{kindFields, orderFields, noGreater, noLater}
+use Rattle.map_writer.specs.Canonical.{estimatesByPlace, canonical, putCharged, putLane, putStated, write}
+use Rattle.map_writer.specs.Call.{shortOutput, outputRows, writeRows, writeRefusal, writtenWith, writeIf, writeMap}
+
+-- lanes that differ from the one before in one field only: class, length, kind, cost, to, from; and a repeat
+lanes : List ℕ
+lanes =
+    putArc 2 0 4 ++ putArc 1 2 4 ++ putArc 1 0 8 ++ putArc 1 0 4 ++ putMeasured 1 0 4 0 ++ putMeasured 1 0 2 1 ++ putMeasured 1 0 1 3 ++ putArc 1 0 4
+
+inOrder : List ℕ
+inOrder =
+    putArc 1 0 4 ++ putArc 1 0 4 ++ putMeasured 1 0 1 3 ++ putMeasured 1 0 2 1 ++ putMeasured 1 0 4 0 ++ putArc 1 0 8 ++ putArc 1 2 4 ++ putArc 2 0 4
+
+job : List ℕ
+job = putJob 2 90 (0 ∷ 1 ∷ [])
+
+-- estimates stand between the lanes and after them, out of order, one of them 0
+jumbled : List ℕ
+jumbled = putHead 4 8 ++ putEstimate 3 7 ++ lanes ++ putEstimate 1 0 ++ putEstimate 2 300 ++ job
+
+canonicalForm : List ℕ
+canonicalForm = putHead 4 8 ++ inOrder ++ putEstimate 2 300 ++ putEstimate 3 7 ++ job
+
+record Run : Type 0 where
+  pub input : List ℕ
+  -- how long the lent areas are
+  pub words : ℕ
+  pub bytes : ℕ
+  pub number : ℕ
+  -- the work words that are 0 afterwards, and what is written
+  pub zeros : ℕ
+  pub text : List ℕ
+
+run : (input : List ℕ) (words bytes number zeros : ℕ) (text : List ℕ) → Run
+run i w b n z t = record { input = i; words = w; bytes = b; number = n; zeros = z; text = t }
+
+runs : List Run
+runs =
+    run jumbled 84 140 0 80 canonicalForm
+    ∷ run canonicalForm 80 130 0 80 canonicalForm
+    -- one word, and one byte, less than is asked: what would be written would fit
+    ∷ run jumbled 79 140 14 0 []
+    ∷ run jumbled 80 139 15 0 []
+    ∷ run jumbled 79 139 14 0 []
+    -- a condition of the input comes first
+    ∷ run [] 0 0 4 0 []
+    ∷ run (putHead 1 1 ++ putMeasured 0 0 1 8 ++ putJob 0 0 (0 ∷ [])) 0 0 20 0 []
+    ∷ []
+
+same : List ℕ → List ℕ → Bool
+same [] [] = true
+same [] (y ∷ ys) = false
+same (x ∷ xs) [] = false
+same (x ∷ xs) (y ∷ ys) = eqb x y && same xs ys
+
+-- the lent areas hold sevens and nines before the call
+agrees : Run → Bool
+agrees r =
+    let after = writeMap (r .input) (replicate (r .words) 7) (replicate (r .bytes) 9) in
+    let a = after .answer in
+    let size = length (r .text) in
+    let numbers = a .number ∷ a .cost ∷ a .limit ∷ a .floor ∷ a .expansions ∷ a .queries ∷ a .sheet-bytes ∷ [] in
+    same numbers (r .number ∷ 0 ∷ 0 ∷ 0 ∷ 0 ∷ 0 ∷ size ∷ [])
+    && (same (after .work) (replicate (r .zeros) 0 ++ replicate (r .words - r .zeros) 7)
+    && same (after .sheet) (r .text ++ replicate (r .bytes - size) 9))
+
+all : List Run → Bool
+all [] = true
+all (r ∷ rs) = agrees r && all rs
+
+runs-agree : all runs ≡ true
+unfolding compute lanes inOrder job jumbled canonicalForm run runs same agrees all below flatMap putHead putArc putMeasured putEstimate putJob
+    insert sortBy kindFields orderFields noGreater noLater estimatesByPlace canonical putCharged putLane putStated write
+    shortOutput outputRows writeRows writeRefusal writtenWith writeIf writeMap
+runs-agree = refl

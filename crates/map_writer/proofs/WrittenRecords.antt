@@ -1,0 +1,179 @@
+-- The records that are written of what is stated. Where its fields fit in theirs, they are bytes and are framed as those records. Assumes nothing.
+use mathlib.Core.Path.{_≡_, refl, sym, _∙_}
+use mathlib.Core.Bool.{false}
+use mathlib.Core.List.{List, [], _∷_, _++_, map, flatMap, append-nil, append-assoc}
+use mathlib.Core.List.{List·Memᴰ, List·Memᴰ·head, List·Memᴰ·tail, List·Memᴰ·not-nil}
+use Prim.Native.Nat.{ℕ, _+_, _*_, _^_, _<_}
+use native.Mathlib.Omega.{arith}
+use lib.ListN.{length}
+use Rattle.model.specs.Bytes.{Bytes, put16, put32, put16s}
+use Rattle.model.specs.Framing.{Record, frame, putRecord}
+use Rattle.model.specs.Items.{headKind, arcKind, estimateKind, jobKind, measuredKind, jobBytes}
+use Rattle.model.specs.Items.{Size, Charge, flat, measured, Lane, Estimate, Job}
+use Rattle.model.specs.Stated.{Stated, fixedFactors}
+use Rattle.model.specs.Jobs.{putHead, putArc, putMeasured, putEstimate, putJob}
+use Rattle.model.proofs.Bytes.{append-bytes, put16-is-bytes, put32-is-bytes, put16s-is-bytes, put16s-length}
+use Rattle.model.proofs.Records.{putRecords, Fits, AllFit, putRecords-is-bytes, frame-records}
+use Rattle.map_writer.specs.Canonical.{putCharged, putLane, putStated}
+
+-- ---- what fits in the bytes of its fields
+
+abbrev pub StorableCharge : Charge → Type 0
+StorableCharge (flat cost) = cost < 65536
+StorableCharge (measured length class) = (length < 65536) × (class < 65536)
+
+pub record StorableLane (l : Lane) : Type 0 where
+  pub from : l .from < 65536
+  pub to : l .to < 65536
+  pub charge : StorableCharge (l .charge)
+
+pub record StorableEstimate (e : Estimate) : Type 0 where
+  pub place : e .place < 65536
+  pub value : e .value < 2 ^ 32
+
+pub record StorableJob (j : Job) : Type 0 where
+  pub start : j .start < 65536
+  pub allowance : j .allowance < 2 ^ 32
+  pub goals : (g : ℕ) → List·Memᴰ g (j .goals) → g < 65536
+  pub few-goals : jobBytes + 2 * length (j .goals) < 65536
+
+pub record Storable (t : Stated) : Type 0 where
+  pub places : t .size .places < 65536
+  pub arcs : t .size .arcs < 65536
+  pub lanes : (l : Lane) → List·Memᴰ l (t .lanes) → StorableLane l
+  pub estimates : (e : Estimate) → List·Memᴰ e (t .estimates) → StorableEstimate e
+  pub job : StorableJob (t .job)
+  -- no record states others
+  pub factors : t .factors ≡ fixedFactors
+  pub growth : t .growth ≡ 2
+
+-- ---- the records
+
+unfoldable pub headRecord : Size → Record
+headRecord s = record { kind = headKind; body = put16 (s .places) ++ put16 (s .arcs) }
+
+unfoldable pub chargedRecord : (from to : ℕ) → Charge → Record
+chargedRecord u v (flat cost) = record { kind = arcKind; body = put16 u ++ put16 v ++ put16 cost }
+chargedRecord u v (measured length class) = record { kind = measuredKind; body = put16 u ++ put16 v ++ put16 length ++ put16 class }
+
+unfoldable pub laneRecord : Lane → Record
+laneRecord l = chargedRecord (l .from) (l .to) (l .charge)
+
+unfoldable pub estimateRecord : Estimate → Record
+estimateRecord e = record { kind = estimateKind; body = put16 (e .place) ++ put32 (e .value) }
+
+unfoldable pub jobRecord : Job → Record
+jobRecord j = record { kind = jobKind; body = put16 (j .start) ++ put32 (j .allowance) ++ put16 (length (j .goals)) ++ put16s (j .goals) }
+
+unfoldable pub recordsOf : Stated → List Record
+recordsOf t =
+    headRecord (t .size) ∷ (map laneRecord (t .lanes) ++ (map estimateRecord (t .estimates) ++ (jobRecord (t .job) ∷ [])))
+
+-- records put one after another, of which each is the bytes that g gives
+module _ {A : Type 0} (f : A → Record) (g : A → List ℕ) (each : (x : A) → g x ≡ putRecord (f x .kind) (f x .body)) where
+  put-each : (xs : List A) (rs : List Record) → putRecords (map f xs ++ rs) ≡ flatMap g xs ++ putRecords rs
+  unfolding putRecords flatMap
+  put-each [] rs = refl
+  put-each (x ∷ xs) rs =
+      rw (put-each xs rs, each x) (sym (append-assoc (putRecord (f x .kind) (f x .body)) (flatMap g xs) (putRecords rs)))
+
+put-lane : (l : Lane) → putLane l ≡ putRecord (laneRecord l .kind) (laneRecord l .body)
+unfolding putLane laneRecord putCharged chargedRecord putArc putMeasured
+put-lane l = go (l .charge)
+  where
+    go : (c : Charge) → putCharged (l .from) (l .to) c ≡ putRecord (chargedRecord (l .from) (l .to) c .kind) (chargedRecord (l .from) (l .to) c .body)
+    go (flat cost) = refl
+    go (measured length class) = refl
+
+put-estimate : (e : Estimate) → putEstimate (e .place) (e .value) ≡ putRecord (estimateRecord e .kind) (estimateRecord e .body)
+unfolding putEstimate estimateRecord
+put-estimate e = refl
+
+-- one after another they are what is written
+pub put-records : (t : Stated) → putRecords (recordsOf t) ≡ putStated t
+unfolding recordsOf putStated putRecords putHead putJob headRecord jobRecord
+put-records t =
+    let h : List ℕ = putHead (t .size .places) (t .size .arcs) in
+    let ls : List ℕ = flatMap putLane (t .lanes) in
+    let es : List ℕ = flatMap (λ (e : Estimate). putEstimate (e .place) (e .value)) (t .estimates) in
+    let j : List ℕ = putJob (t .job .start) (t .job .allowance) (t .job .goals) in
+    let lanes = put-each laneRecord putLane put-lane (t .lanes) in
+    let estimates = put-each estimateRecord (λ (e : Estimate). putEstimate (e .place) (e .value)) put-estimate (t .estimates) in
+    rw (lanes, estimates, append-nil j) (sym (append-assoc (h ++ ls) es j ∙ append-assoc h ls (es ++ j)))
+
+-- ---- they fit
+
+two-fields : (x y : ℕ) → Bytes (put16 x ++ put16 y)
+two-fields x y = append-bytes (put16 x) (put16 y) (put16-is-bytes x) (put16-is-bytes y)
+
+three-fields : (x y z : ℕ) → Bytes (put16 x ++ put16 y ++ put16 z)
+three-fields x y z = append-bytes (put16 x ++ put16 y) (put16 z) (two-fields x y) (put16-is-bytes z)
+
+four-fields : (x y z w : ℕ) → Bytes (put16 x ++ put16 y ++ put16 z ++ put16 w)
+four-fields x y z w = append-bytes (put16 x ++ put16 y ++ put16 z) (put16 w) (three-fields x y z) (put16-is-bytes w)
+
+head-fits : (s : Size) → Fits (headRecord s)
+unfolding headRecord put16
+head-fits s = record { kind-below = omega arith; length-below = omega arith; bytes = two-fields (s .places) (s .arcs) }
+
+lane-fits : (l : Lane) → Fits (laneRecord l)
+unfolding laneRecord chargedRecord put16
+lane-fits l = go (l .charge)
+  where
+    go : (c : Charge) → Fits (chargedRecord (l .from) (l .to) c)
+    go (flat cost) = record { kind-below = omega arith; length-below = omega arith; bytes = three-fields (l .from) (l .to) cost }
+    go (measured length class) =
+        record { kind-below = omega arith; length-below = omega arith; bytes = four-fields (l .from) (l .to) length class }
+
+estimate-fits : (e : Estimate) → Fits (estimateRecord e)
+unfolding estimateRecord put16 put32
+estimate-fits e =
+    let bytes : Bytes (put16 (e .place) ++ put32 (e .value))
+    = append-bytes (put16 (e .place)) (put32 (e .value)) (put16-is-bytes (e .place)) (put32-is-bytes (e .value)) in
+    record { kind-below = omega arith; length-below = omega arith; bytes = bytes }
+
+-- the body of a job before its goals
+abbrev pub jobFront : Job → List ℕ
+jobFront j = put16 (j .start) ++ put32 (j .allowance) ++ put16 (length (j .goals))
+
+front-bytes : (j : Job) → Bytes (jobFront j)
+front-bytes j =
+    let front : List ℕ = put16 (j .start) ++ put32 (j .allowance) in
+    let two : Bytes front = append-bytes (put16 (j .start)) (put32 (j .allowance)) (put16-is-bytes (j .start)) (put32-is-bytes (j .allowance)) in
+    append-bytes front (put16 (length (j .goals))) two (put16-is-bytes (length (j .goals)))
+
+-- a job's body has the length that the job says
+pub job-length : (j : Job) → length (jobRecord j .body) ≡ jobBytes + 2 * length (j .goals)
+unfolding jobRecord put16 put32
+job-length j = omega (arith, put16s-length (j .goals))
+
+job-fits : (j : Job) → StorableJob j → Fits (jobRecord j)
+unfolding jobRecord
+job-fits j ok =
+    let bytes : Bytes (jobFront j ++ put16s (j .goals))
+    = append-bytes (jobFront j) (put16s (j .goals)) (front-bytes j) (put16s-is-bytes (j .goals)) in
+    record { kind-below = omega arith; length-below = omega (arith, job-length j, ok .few-goals); bytes = bytes }
+
+-- records that each fit, before others that fit
+module _ {A : Type 0} (f : A → Record) (each : (x : A) → Fits (f x)) where
+  fit-each : (xs : List A) (rs : List Record) → AllFit rs → AllFit (map f xs ++ rs)
+  fit-each [] rs fit r i = fit r i
+  fit-each (x ∷ xs) rs fit r (List·Memᴰ·head e) = rw e (each x)
+  fit-each (x ∷ xs) rs fit r (List·Memᴰ·tail i) = fit-each xs rs fit r i
+
+records-fit : (t : Stated) → Storable t → AllFit (recordsOf t)
+unfolding recordsOf
+records-fit t ok r (List·Memᴰ·head e) = rw e (head-fits (t .size))
+records-fit t ok r (List·Memᴰ·tail i) =
+    fit-each laneRecord lane-fits (t .lanes) _ (fit-each estimateRecord estimate-fits (t .estimates) _ last) r i
+  where
+    last : AllFit (jobRecord (t .job) ∷ [])
+    last r (List·Memᴰ·head e) = rw e (job-fits (t .job) (ok .job))
+    last r (List·Memᴰ·tail i) = absurd (List·Memᴰ·not-nil i)
+
+pub put-bytes : (t : Stated) → Storable t → Bytes (putStated t)
+put-bytes t ok = rw (← put-records t) (putRecords-is-bytes (recordsOf t) (records-fit t ok))
+
+-- whole records, and these
+pub put-framed : (t : Stated) → Storable t → frame (putStated t) ≡ record { records = recordsOf t; broken = false }
+put-framed t ok = rw (← put-records t) (frame-records (recordsOf t) (records-fit t ok))

@@ -1,0 +1,30 @@
+-- What is printed of three inputs, as the definitions compute it. Assumes nothing.
+use mathlib.Core.Path.{_≡_, refl}
+use mathlib.Core.List.{[], _∷_, _++_, flatMap}
+use lib.ListN.{replicate}
+use Rattle.model.specs.Lists.{below}
+use Rattle.model.specs.Jobs.{putHead, putArc, putEstimate, putJob}
+use Rattle.model.proofs.Compute.{compute}
+use Rattle.sort.specs.Sorting.{sortBy, insert}
+use Rattle.map_writer.specs.Order.{kindFields, orderFields, noGreater, noLater}
+use Rattle.map_writer.specs.Canonical.{estimatesByPlace, canonical, putCharged, putLane, putStated, write}
+use Rattle.map_writer.specs.Call.{shortOutput, outputRows, writeRows, writeRefusal, writtenWith, writeIf, writeMap}
+use Rattle.text.specs.Text.{decimalUpTo, decimal, parted, line, tooLong}
+use Rattle.write_map.specs.Printed.{streams, streamsOf, answered, printed}
+
+-- no record at all: "4" on standard error
+nothing : printed [] ≡ streams [] (52 ∷ 10 ∷ [])
+unfolding compute shortOutput outputRows writeRows writeRefusal writtenWith writeIf writeMap decimalUpTo decimal parted line streamsOf answered printed
+nothing = refl
+
+-- two lanes out of order and an estimate of 0: in order, and without it
+two-lanes : printed (putHead 2 2 ++ putEstimate 1 0 ++ putArc 1 0 1 ++ putArc 0 1 256 ++ putJob 1 944 (0 ∷ []))
+    ≡ streams (putHead 2 2 ++ putArc 0 1 256 ++ putArc 1 0 1 ++ putJob 1 944 (0 ∷ [])) []
+unfolding
+    compute flatMap below insert sortBy kindFields orderFields noGreater noLater estimatesByPlace canonical putCharged putLane putStated write
+    shortOutput outputRows writeRows writeRefusal writtenWith writeIf writeMap decimalUpTo decimal parted line streamsOf answered printed
+two-lanes = refl
+
+long : printed (replicate 65537 0) ≡ streams [] tooLong
+unfolding printed
+long = refl

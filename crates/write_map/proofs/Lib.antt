@@ -1,0 +1,4 @@
+-- Laws of what the program prints.
+pub mod Printing
+pub mod NeverShort
+pub mod Examples

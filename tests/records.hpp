@@ -1,0 +1,39 @@
+// An input as its records.
+#pragma once
+#include <algorithm>
+#include <vector>
+
+#include "plain_reader.hpp"
+
+using Bytes = std::vector<uint8_t>;
+using Records = std::vector<Bytes>;
+
+// what is left where the framing breaks is the last one
+inline Records split(const uint8_t *input, size_t length)
+{
+    Records records;
+    for (size_t at = 0; at < length; at += records.back().size()) {
+        size_t left = length - at, whole = left < 4 ? left : std::min<size_t>(left, 4 + plain::u16(input + at));
+        records.emplace_back(input + at, input + at + whole);
+    }
+    return records;
+}
+
+inline Bytes join(const Records &records)
+{
+    Bytes all;
+    for (const Bytes &r : records)
+        all.insert(all.end(), r.begin(), r.end());
+    return all;
+}
+
+inline bool is_arc(const Bytes &r)
+{
+    return (r.size() == 10 && r[2] == 2) || (r.size() == 12 && r[2] == 5);
+}
+
+// gives the head the number of arcs that there are
+inline void count_arcs(Records &records)
+{
+    plain::put16(&records[0][6], static_cast<uint32_t>(std::count_if(records.begin(), records.end(), is_arc)));
+}

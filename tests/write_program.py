@@ -1,0 +1,102 @@
+#!/usr/bin/env python3
+"""Runs program `write_map` on whole, piecewise, damaged and long inputs and holds what it writes against document 02, paper 3; then with input and
+output that fail, that are late and that are slow: write_program.py PROGRAM"""
+import os
+import random
+import sys
+
+from edges import broken
+from listing import records
+from program import INPUT, WORK, around_longest, chain, longest, some_inputs
+from reference import ORDER, arc, estimate, head, job, measured, write_map
+from streams import ended, failing, given, report, slow, start, whole
+
+# a map by hand and what is made of it: from before to, to before cost, cost before kind, kind 2 before 5, length before class; a repeat stays, an
+# estimate of 0 goes; numbers are put in order, not their first bytes
+JUMBLED = records('''
+    places 300
+    estimate at 256 is 1
+    arc from 256 to 1 cost 1
+    arc from 1 to 256 cost 9
+    arc from 1 to 2 cost 256
+    arc from 1 to 2 length 96 class 0
+    arc from 1 to 2 length 6 class 7
+    estimate at 0 is 0
+    arc from 1 to 2 length 8 class 6
+    arc from 1 to 2 cost 96
+    arc from 1 to 2 length 6 class 7
+    arc from 1 to 2 length 4 class 1
+    estimate at 2 is 268435455
+    arc from 1 to 2 length 255 class 1
+    job start 1 allowance 70800 goals 0 299''')
+WRITTEN = records('''
+    places 300
+    arc from 1 to 2 length 4 class 1
+    arc from 1 to 2 cost 96
+    arc from 1 to 2 length 6 class 7
+    arc from 1 to 2 length 6 class 7
+    arc from 1 to 2 length 8 class 6
+    arc from 1 to 2 length 96 class 0
+    arc from 1 to 2 cost 256
+    arc from 1 to 2 length 255 class 1
+    arc from 1 to 256 cost 9
+    arc from 256 to 1 cost 1
+    estimate at 2 is 268435455
+    estimate at 256 is 1
+    job start 1 allowance 70800 goals 0 299''')
+
+
+def printed(data):
+    """standard output and standard error"""
+    if len(data) > INPUT:
+        return b'', b'too long\n'
+    (number, *_), out = write_map(data, WORK, INPUT)
+    return out, b'%d\n' % number if number else b''
+
+
+def by_hand():
+    full, over = head(1024, 0) + job(0, 0, [0]), head(1024, 1) + measured(0, 0, 1, 0) + job(0, 0, [0])
+    yield JUMBLED, (WRITTEN, b'')
+    yield WRITTEN, (WRITTEN, b'')
+    yield full, (full, b'')  # takes all 16,384 words
+    yield over, (b'', b'14\n')
+    yield head(2, 0) + estimate(0, 0) + estimate(1, 0) + job(1, 0, [0]), (head(2, 0) + job(1, 0, [0]), b'')
+    yield b'', (b'', b'4\n')
+    yield bytes(INPUT + 1), (b'', b'too long\n')
+
+
+def refused():
+    """an input for every refusal that may come, but for 14"""
+    yield from (broken([number]) for number in ORDER if number not in (14, 15))
+
+
+def many_records(rnd):
+    """estimates, most of them 0, and arcs of both kinds, mixed"""
+    estimates = [estimate(v, rnd.choice([0, 0, v])) for v in reversed(range(1, 819))]
+    arcs = [rnd.choice([arc(v % 819, v % 7, 1 + v % 99), measured(v % 819, v % 7, 1 + v % 9, v % 8)]) for v in range(1600)]
+    mixed = estimates + arcs
+    rnd.shuffle(mixed)
+    return head(819, len(arcs)) + b''.join(mixed) + job(0, 9, [0])
+
+
+def refusals_apart(program):
+    """a refusal has nothing to write to standard output, and so nothing that could fail"""
+    null = os.open(os.devnull, os.O_RDWR)
+    refused = (b'', b'4\n')
+    yield 'a refusal with a closed output', ended(start(program, stdin=given(b''), stdout=null, preexec_fn=lambda: os.close(1))), refused
+    yield 'a refusal with a full output', ended(start(program, stdin=given(b''), stdout=os.open('/dev/full', os.O_WRONLY))), refused
+
+
+def main(program):
+    rnd = random.Random(5)
+    samples = [*refused(), *around_longest(rnd), many_records(rnd), chain(910, 65535), *some_inputs(rnd, 150)]
+    cases = [*by_hand(), *((data, printed(data)) for data in samples)]
+    assert {err for _, (_, err) in cases} == {b'', b'too long\n', *(b'%d\n' % number for number in ORDER if number != 15)}
+    full = longest(rnd)
+    out = printed(full)[0]
+    trials = [*whole(program, cases, rnd), *failing(program, chain(4, 1), full, out), *slow(program, full, out), *refusals_apart(program)]
+    return not report('write_program', trials)
+
+
+if __name__ == '__main__':
+    sys.exit(main(*sys.argv[1:]))
