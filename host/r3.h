@@ -5,8 +5,8 @@
  *
  * A slice is passed as a pointer and a length, counted in elements. What is promised rests on four things that nobody checks:
  * no pointer is null, also where the length is 0; words are aligned as uint32_t is; the areas that a call may write overlap
- * neither each other nor what it reads; and there is stack enough: 64 KiB for r3_sheet, and for r3_route, which puts a route down
- * by a recursion with one call for each of its places, 320 KiB; r3_write_map needs no more than r3_route. */
+ * neither each other nor what it reads; and there is stack enough: 64 KiB for r3_sheet and r3_write_map, and for r3_route, which puts a
+ * route down by a recursion with one call for each of its places, 320 KiB. */
 #ifndef R3_H
 #define R3_H
 

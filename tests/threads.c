@@ -7,7 +7,7 @@
 #include "lent.h"
 #include "r3.h"
 
-enum { PLACES = 4096, COST = 65535, THREADS = 4, CALLS = 8, ROUTE_STACK = 320 << 10, WRITE_STACK = ROUTE_STACK, SHEET_STACK = 64 << 10 };
+enum { PLACES = 4096, COST = 65535, THREADS = 4, CALLS = 8, ROUTE_STACK = 320 << 10, SHEET_STACK = 64 << 10, WRITE_STACK = 64 << 10 };
 enum { HEAD = 8, ARC = 10, JOB = 14, INPUT = HEAD + ARC * (PLACES - 1) + JOB };
 
 static uint8_t input[INPUT];

@@ -13,6 +13,11 @@ pub sets-join : (vs ws l : List ℕ) (i j : ℕ) → j ≡ i + length vs → set
 sets-join [] ws l i j q = ap (λ (k : ℕ). sets l k ws) (omega arith)
 sets-join (v ∷ vs) ws l i j q = sets-join vs ws _ (suc i) j (omega arith)
 
+-- the same of three states: the run ys was stored after the run xs
+pub sets-then : {mid out : List ℕ} (old xs ys : List ℕ) (i j : ℕ) → j ≡ i + length xs → mid ≡ sets old i xs → out ≡ sets mid j ys
+    → out ≡ sets old i (xs ++ ys)
+sets-then old xs ys i j q e f = f ∙ ap (λ (l : List ℕ). sets l j ys) e ∙ sets-join xs ys old i j q
+
 -- a run of stores from the front on
 pub sets-front : (vs l : List ℕ) → length vs ≤ length l → sets l 0 vs ≡ vs ++ drop (length vs) l
 sets-front vs l h =

@@ -7,11 +7,18 @@ use lib.ListN.{length}
 use borrow.Author.Tests.{ltb-false, le-ltb}
 use Rattle.model.specs.Lists.{any}
 use Rattle.model.specs.Framing.{frame}
-use Rattle.model.specs.Stated.{statedIn}
+use Rattle.model.specs.Stated.{Stated, statedIn}
 use Rattle.model.specs.Refusals.{workWords, shortWork, formRows, sizeRows, mapRows, jobRows, inputRows}
 use Rattle.model.specs.Refusals.{firstOf, firstThatHolds, holdsAt, inputRefusal}
+use Rattle.model.specs.Answer.{refusedWith}
 use Rattle.model.proofs.Rows.{Numbered, row-fails, input-numbered, groups}
-use Rattle.map_writer.specs.Call.{shortOutput, outputRows, writeRows, writeRefusal, Writable}
+use Rattle.map_writer.specs.Call.{shortOutput, outputRows, writeRows, writeRefusal, Writable, writtenWith, writeIf}
+
+-- the call's number is that of its refusal
+pub number-given : (n : ℕ) (s : Stated) (work output : List ℕ) → writeIf n s work output .answer .number ≡ n
+unfolding writeIf refusedWith writtenWith
+number-given zero s work output = refl
+number-given (suc n) s work output = refl
 
 -- the writer adds the rows of what is lent to it
 pub write-parts : (input : List ℕ) (words bytes : ℕ)

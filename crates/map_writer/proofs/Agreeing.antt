@@ -22,7 +22,7 @@ use Rattle.map_writer.specs.Order.{noLater}
 use Rattle.map_writer.specs.Canonical.{estimatesByPlace, canonical}
 use Rattle.map_writer.specs.Agree.{sameCharge, sameLane, copies, Agree}
 use Rattle.map_writer.specs.Keys.{keyOf, laneIn}
-use Rattle.map_writer.proofs.KeyLaws.{key-back, sorted-keys}
+use Rattle.map_writer.proofs.KeyLaws.{keys-back, sorted-keys}
 use Rattle.map_writer.proofs.EstimateLaws.{EstimatesInside, canonical-lookup}
 
 -- ---- the test of equality
@@ -106,13 +106,6 @@ unfolding filter
 filter-keys f p [] = refl
 filter-keys f p (l ∷ lanes) =
     omega (arith, filter-cons p (keyOf f l) (map (keyOf f) lanes), filter-cons (λ (m : Lane). p (keyOf f m)) l lanes, filter-keys f p lanes)
-
-keys-back : (n : ℕ) (f : List ℕ) (lanes : List Lane) → n ≤ maxPlaces → ((l : Lane) → List·Memᴰ l lanes → Fit n f l)
-    → map laneIn (map (keyOf f) lanes) ≡ lanes
-keys-back n f [] few fits = refl
-keys-back n f (l ∷ lanes) few fits =
-    ap₂ (λ (m : Lane) (ms : List Lane). m ∷ ms) (key-back n f l few (fits l (List·Memᴰ·head refl)))
-    (keys-back n f lanes few (λ m i. fits m (List·Memᴰ·tail i)))
 
 -- lanes with as many copies of each have one order
 pub copies-sort : (n : ℕ) (f : List ℕ) (ls ms : List Lane) → n ≤ maxPlaces

@@ -1,7 +1,7 @@
 -- A lane as the number that it is sorted by: the lane is read back from it, and the order of lanes is that of the numbers. Assumes nothing.
 use mathlib.Core.Path.{_≡_, refl, sym, ap, ap₂, _∙_}
 use mathlib.Core.Bool.{Bool, true, false, _&&_, _||_}
-use mathlib.Core.List.{List, [], _∷_, map, List·Memᴰ}
+use mathlib.Core.List.{List, [], _∷_, map, List·Memᴰ, List·Memᴰ·head, List·Memᴰ·tail}
 use Prim.Native.Nat.{ℕ, _+_, _*_, _/_, _%_, _≤_, _<_}
 use native.Mathlib.Omega.{arith}
 use lib.Dec.{ltb, eqb, leb}
@@ -59,6 +59,13 @@ key-back n f l few fit =
     let to-is : keyOf f l / wordEnd % 4096 ≡ l .to = omega (arith, high, fit .to) in
     let charge-is : chargeIn (keyOf f l % wordEnd) ≡ l .charge = ap chargeIn low ∙ charge-back f (l .charge) (fit .measure) in
     λ i. record { from = from-is i; to = to-is i; charge = charge-is i }
+
+pub keys-back : (n : ℕ) (f : List ℕ) (lanes : List Lane) → n ≤ maxPlaces → ((l : Lane) → List·Memᴰ l lanes → Fit n f l)
+    → map laneIn (map (keyOf f) lanes) ≡ lanes
+keys-back n f [] few fits = refl
+keys-back n f (l ∷ lanes) few fits =
+    ap₂ (λ (m : Lane) (ms : List Lane). m ∷ ms) (key-back n f l few (fits l (List·Memᴰ·head refl)))
+    (keys-back n f lanes few (λ m i. fits m (List·Memᴰ·tail i)))
 
 -- ---- the order
 -- numbers j and k are in the order of lists that begin with x and y

@@ -1,7 +1,7 @@
 -- The map that the words hold, once the lanes are in order, is the written map. Assumes nothing.
 use mathlib.Core.Path.{_≡_, refl, sym, ap, ap₂, _∙_}
 use mathlib.Core.Bool.{Bool, true, false, cond, not}
-use mathlib.Core.List.{List, [], _∷_, _++_, map, flatMap, append-nil, append-assoc, map-append, List·Memᴰ, List·Memᴰ·head, List·Memᴰ·tail}
+use mathlib.Core.List.{List, [], _∷_, _++_, map, flatMap, append-nil, append-assoc, map-append, List·Memᴰ}
 use Prim.Native.Nat.{ℕ, zero, suc, _+_, _-_, _*_, _≤_, _<_, _^_}
 use native.Mathlib.Omega.{arith}
 use lib.Dec.{eqb}
@@ -14,7 +14,7 @@ use Rattle.model.specs.Limits.{maxPlaces, maxArcs, maxGoals}
 use Rattle.model.specs.Items.{Charge, flat, measured, Lane, Estimate, chargeBytes}
 use Rattle.model.specs.Stated.{Stated, statedIn, lookup}
 use Rattle.model.specs.Jobs.{putEstimate}
-use Rattle.model.proofs.Lists.{filter-length, below-length}
+use Rattle.model.proofs.Lists.{filter-append, filter-length, below-length}
 use Rattle.map.specs.declared.Job.{Job}
 use Rattle.map.specs.Jobs.{States}
 use Rattle.layout.specs.Regions.{estimatesAt, goalsAt, arcsAt}
@@ -22,19 +22,11 @@ use Rattle.load.specs.Load.{Fit}
 use Rattle.sort.proofs.SortLaws.{sort-member, sort-length}
 use Rattle.map_writer.specs.Order.{noLater}
 use Rattle.map_writer.specs.Canonical.{estimatesByPlace, canonical, putLane, putStated, write}
-use Rattle.map_writer.specs.Keys.{keyOf, laneIn, keysBetween}
+use Rattle.map_writer.specs.Keys.{laneIn, keysBetween}
 use Rattle.map_writer.specs.Puts.{putLanes, putNonzero, putEstimates, putJobOf, mapText}
 use Rattle.map_writer.specs.Steps.{InOrder}
-use Rattle.map_writer.proofs.KeyLaws.{key-back}
+use Rattle.map_writer.proofs.KeyLaws.{keys-back}
 use Rattle.map_writer.proofs.Shorter.{laneBytes, statedBytes, written-length}
-
--- ---- Lanes
-
--- lanes are read back from their keys
-lanes-back : (n : ℕ) (f : List ℕ) (ls : List Lane) → n ≤ maxPlaces → ((l : Lane) → List·Memᴰ l ls → Fit n f l) → map laneIn (map (keyOf f) ls) ≡ ls
-lanes-back n f [] few fit = refl
-lanes-back n f (l ∷ ls) few fit =
-    ap₂ {C = List Lane} _∷_ (key-back n f l few (fit l (List·Memᴰ·head refl))) (lanes-back n f ls few (λ m i. fit m (List·Memᴰ·tail i)))
 
 -- ---- Estimates
 
@@ -42,16 +34,6 @@ flatMap-append : {A : Type 0} (f : A → List ℕ) (xs ys : List A) → flatMap 
 unfolding flatMap
 flatMap-append f [] ys = refl
 flatMap-append f (x ∷ xs) ys = ap (λ (zs : List ℕ). f x ++ zs) (flatMap-append f xs ys) ∙ sym (append-assoc (f x) (flatMap f xs) (flatMap f ys))
-
-filter-append : {A : Type 0} (p : A → Bool) (xs ys : List A) → filter p (xs ++ ys) ≡ filter p xs ++ filter p ys
-unfolding filter
-filter-append p [] ys = refl
-filter-append {A} p (x ∷ xs) ys = go (p x) (filter-append p xs ys)
-  where
-    go : (t : Bool) → filter p (xs ++ ys) ≡ filter p xs ++ filter p ys
-        → cond t (x ∷ filter p (xs ++ ys)) (filter p (xs ++ ys)) ≡ cond t (x ∷ filter p xs) (filter p xs) ++ filter p ys
-    go true e = ap (λ (zs : List A). x ∷ zs) e
-    go false e = e
 
 -- one word more
 estimates-more : (v : ℕ) (hs : List ℕ) (h : ℕ) → putEstimates v (hs ++ (h ∷ [])) ≡ putEstimates v hs ++ putNonzero (v + length hs) h
@@ -117,7 +99,7 @@ module _ (input : List ℕ) (j : Job) (w₀ w : List ℕ) (states : States input
       let keys = rw z at (order .keys) in
       let fit : (l : Lane) → List·Memᴰ l (canonical s .lanes) → Fit n (s .factors) l
       = λ l i. fits l (sort-member (noLater (s .factors)) (s .lanes) l .0 i) in
-      ap (λ (ks : List ℕ). flatMap putLane (map laneIn ks)) keys ∙ ap (flatMap putLane) (lanes-back n (s .factors) (canonical s .lanes) few fit)
+      ap (λ (ks : List ℕ). flatMap putLane (map laneIn ks)) keys ∙ ap (flatMap putLane) (keys-back n (s .factors) (canonical s .lanes) few fit)
 
   estimates-text : putEstimates 0 (part (estimatesAt n) (goalsAt n) w) ≡ flatMap putOne (canonical s .estimates)
   unfolding canonical estimatesByPlace

@@ -2,11 +2,11 @@
 -- program's promise has it; `R` is a program that routes. They hold of every P that keeps to the definition `writeMap` and every R that keeps to
 -- `route`, for every input and every lent area.
 -- Each promise is a field beside its sentence in document 02, paper 3; the proofs stand under them. Assumes nothing.
-use mathlib.Core.Path.{_≡_, refl, sym, ap, subst⁻¹, _∙_}
+use mathlib.Core.Path.{_≡_, sym, ap, subst⁻¹, _∙_}
 use mathlib.Core.Logic.{_↔_}
 use mathlib.Core.Bool.{true}
 use mathlib.Core.List.{List, _∷_, _++_}
-use Prim.Native.Nat.{ℕ, zero, suc, _≤_}
+use Prim.Native.Nat.{ℕ, suc, _≤_}
 use native.Mathlib.Omega.{arith}
 use lib.ListN.{length, drop, replicate}
 use lib.Seq.{take-append-seam}
@@ -26,7 +26,7 @@ use Rattle.map_writer.proofs.CanonicalPasses.{few-places, counted-arcs,
 use Rattle.map_writer.proofs.WrittenAccepted.{input-passing, stated-fit, written-states, written-passes}
 use Rattle.map_writer.proofs.Shorter.{written-shorter}
 use Rattle.map_writer.proofs.SameRoute.{written-routes}
-use Rattle.map_writer.proofs.Acceptance.{input-passes, enough-words, enough-bytes, writable-by}
+use Rattle.map_writer.proofs.Acceptance.{number-given, input-passes, enough-words, enough-bytes, writable-by}
 
 -- what the definition makes of a call
 abbrev pub rewritten : Call → Result
@@ -77,17 +77,11 @@ pub record Promises (P R : Program) : Type 0 where
 
 -- ---- The proofs
 
--- only acceptance ends with 0
-wrote-if : (n : ℕ) (c : Call) → writeIf n (statedIn (c .input)) (c .work) (c .sheet) .answer .number ≡ 0 → n ≡ 0
-unfolding writeIf refusedWith
-wrote-if zero c e = refl
-wrote-if (suc n) c e = e
-
 -- a call that ended with 0
 module _ (c : Call) (zero-number : rewritten c .answer .number ≡ 0) where
   writable : Writable (c .input) (length (c .work)) (length (c .sheet))
   unfolding writeMap
-  writable = wrote-if _ c zero-number
+  writable = sym (number-given _ (statedIn (c .input)) (c .work) (c .sheet)) ∙ zero-number
 
   passes : inputRefusal (frame (c .input)) ≡ 0
   passes = input-passes (c .input) (length (c .work)) (length (c .sheet)) writable

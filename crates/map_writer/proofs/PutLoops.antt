@@ -8,6 +8,7 @@ use lib.ListN.{length, getD, drop, length-append, length-drop, drop-of-length-le
 use lib.Seq.{sets, length-sets, drop-cons}
 use Rattle.area.specs.Part.{part}
 use Rattle.area.proofs.Parts.{part-length}
+use Rattle.area.proofs.Sets.{sets-then}
 use Rattle.model.specs.Bytes.{put16}
 use Rattle.model.specs.Framing.{putRecord}
 use Rattle.model.specs.Limits.{maxPlaces}
@@ -18,12 +19,12 @@ use Rattle.sort.specs.Keys.{keysOf, keyFrom}
 use Rattle.map_writer.specs.Canonical.{putLane}
 use Rattle.map_writer.specs.Keys.{laneIn}
 use Rattle.map_writer.specs.Puts.{Put, Fits, putLanes, putNonzero, putEstimates, putJobOf, mapText, Puttable}
-use Rattle.map_writer.proofs.PutRecords.{next-field, put-none}
+use Rattle.map_writer.proofs.PutRecords.{put-none}
 
 -- bytes put directly after others are put with them
 pub put-then : {a b : List ℕ} {at : ℕ} {old mid out : List ℕ} {r s : ℕ} → Put a at old mid r → Put b r mid out s → Put (a ++ b) at old out s
 put-then {a} {b} {at} {old} p q =
-    record { bytes = next-field old a b at _ (p .end) (p .bytes) (q .bytes); end = omega (arith, p .end, q .end, length-append a b) }
+    record { bytes = sets-then old a b at _ (p .end) (p .bytes) (q .bytes); end = omega (arith, p .end, q .end, length-append a b) }
 
 -- Of all that is to be put, `rest` is left: once it is put where the others end, all is put.
 pub record Putting (all rest : List ℕ) (start : ℕ) (old mid : List ℕ) (at : ℕ) : Type 0 where

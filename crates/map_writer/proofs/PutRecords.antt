@@ -8,7 +8,7 @@ use native.Mathlib.Omega.{arith}
 use lib.ListN.{length, take, drop, length-take, length-drop}
 use lib.Seq.{sets}
 use borrow.Author.Tests.{eq-eqb, ne-eqb}
-use Rattle.area.proofs.Sets.{sets-join}
+use Rattle.area.proofs.Sets.{sets-then}
 use Rattle.model.specs.Bytes.{Bytes, u16s, put16, put32, put16s}
 use Rattle.model.specs.Framing.{putRecord}
 use Rattle.model.specs.Items.{headKind, arcKind, estimateKind, jobKind, measuredKind}
@@ -23,11 +23,6 @@ use Rattle.map_writer.specs.Puts.{Put, Fits, putNonzero, putJobOf, Goals
 use Rattle.map_writer.proofs.Shorter.{put-job-length}
 
 -- ---- Fields one after another
-
--- the next field after those that stand from `at` on
-pub next-field : {mid out : List ℕ} (old xs ys : List ℕ) (at i : ℕ) → i ≡ at + length xs → mid ≡ sets old at xs → out ≡ sets mid i ys
-    → out ≡ sets old at (xs ++ ys)
-next-field old xs ys at i q e f = f ∙ ap (λ (l : List ℕ). sets l i ys) e ∙ sets-join xs ys old at i q
 
 -- a record's length and kind
 abbrev header : (bytes kind : ℕ) → List ℕ
@@ -57,7 +52,7 @@ unfolding putMeasured putRecord put16
 measured-fields at from to feet class old {s₄ = s₄} e₁ e₂ e₃ e₄ e₅ =
     let front : List ℕ = header measuredBytes measuredKind ++ put16 from ++ put16 to ++ put16 feet in
     let first : s₄ ≡ sets old at front = rw (e₄, e₃, e₂, e₁) (simp towards-suc) in
-    next-field old front (put16 class) at (at + 10) refl first e₅
+    sets-then old front (put16 class) at (at + 10) refl first e₅
 
 pub estimate-fields : (at v h : ℕ) (old : List ℕ) {s₁ s₂ out : List ℕ} → s₁ ≡ sets old at (header estimateBytes estimateKind)
     → s₂ ≡ sets s₁ (at + 4) (put16 v) → out ≡ sets s₂ (at + 6) (put32 h) → out ≡ sets old at (putEstimate v h)
@@ -161,6 +156,6 @@ module _ (input : List ℕ) (j : Job) (last : GoalsLast input j) where
   job-fields at old {s₃ = s₃} B e₁ e₂ e₃ e₄ e₅ =
       let front = header (jobBytes + 2 * j .goals) jobKind ++ put16 (j .site .start) ++ put32 (j .allowance) in
       let first : s₃ ≡ sets old at front = rw (e₃, e₂, e₁) (simp towards-suc) in
-      let next = next-field old front (put16 (j .goals)) at (at + 10) refl first e₄ in
-      let whole = next-field old (jobFront j) goalBytes at (at + 12) refl next e₅ in
+      let next = sets-then old front (put16 (j .goals)) at (at + 10) refl first e₄ in
+      let whole = sets-then old (jobFront j) goalBytes at (at + 12) refl next e₅ in
       record { bytes = whole ∙ rw (job-text B); end = omega (arith, job-length input j) }

@@ -6,12 +6,12 @@ use mathlib.Core.List.{List, [], _∷_, _++_, map, List·Memᴰ, List·Memᴰ·h
 use Prim.Native.Nat.{ℕ, zero, suc, _+_, _/_, _≤_, _<_}
 use native.Mathlib.Omega.{arith}
 use lib.Dec.{eqb, leb}
-use lib.ListN.{length}
+use lib.ListN.{length, length-append}
 use borrow.Author.Tests.{eqb-true, eqb-false}
 use Rattle.model.specs.Lists.{filter}
 use Rattle.model.specs.Limits.{maxPlaces}
 use Rattle.model.specs.Items.{Lane}
-use Rattle.model.proofs.Lists.{filter-member}
+use Rattle.model.proofs.Lists.{filter-append, filter-member}
 use Rattle.load.specs.Load.{Fit, lanesFrom}
 use Rattle.sort.specs.Keys.{wordEnd}
 use Rattle.sort.specs.Sorting.{sortBy, oneIf}
@@ -63,9 +63,7 @@ module _ (n : ℕ) (f : List ℕ) (lanes : List Lane) (few : n ≤ maxPlaces) (f
 
 -- ---- every key is in one row
 filter-both : (p : ℕ → Bool) (xs ys : List ℕ) → length (filter p (xs ++ ys)) ≡ length (filter p xs) + length (filter p ys)
-unfolding filter
-filter-both p [] ys = omega arith
-filter-both p (x ∷ xs) ys = omega (arith, filter-cons p x (xs ++ ys), filter-cons p x xs, filter-both p xs ys)
+filter-both p xs ys = ap length (filter-append p xs ys) ∙ length-append (filter p xs) (filter p ys)
 
 lanes-own : (v : ℕ) (l : Lane) (lanes : List Lane) → eqb (l .from) v ≡ true → lanesFrom v (l ∷ lanes) ≡ l ∷ lanesFrom v lanes
 unfolding lanesFrom filter

@@ -133,6 +133,16 @@ unfolding filter
 filter-all [] = refl
 filter-all (x ∷ xs) = rw (filter-all xs)
 
+pub filter-append : {A : Type 0} (f : A → Bool) (xs ys : List A) → filter f (xs ++ ys) ≡ filter f xs ++ filter f ys
+unfolding filter
+filter-append f [] ys = refl
+filter-append {A} f (x ∷ xs) ys = go (f x) (filter-append f xs ys)
+  where
+    go : (b : Bool) → filter f (xs ++ ys) ≡ filter f xs ++ filter f ys
+        → cond b (x ∷ filter f (xs ++ ys)) (filter f (xs ++ ys)) ≡ cond b (x ∷ filter f xs) (filter f xs) ++ filter f ys
+    go true e = ap (λ (zs : List A). x ∷ zs) e
+    go false e = e
+
 module _ {A : Type 0} (f : A → Bool) where
   pub filter-length : (xs : List A) → length (filter f xs) ≤ length xs
   filter-length xs = rw filter-all at (filter-implies f (λ (x : A). true) (λ x e. refl) xs)

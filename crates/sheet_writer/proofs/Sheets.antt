@@ -1,12 +1,12 @@
 -- Laws of writing the sheets, field after field.
 -- Assumes nothing.
-use mathlib.Core.Path.{_≡_, refl, sym, ap, _∙_}
+use mathlib.Core.Path.{_≡_, refl, ap, _∙_}
 use mathlib.Core.List.{List, _++_}
 use Prim.Native.Nat.{ℕ, _+_, _*_, _≤_, _<_}
 use native.Mathlib.Omega.{arith}
 use lib.ListN.{length}
 use lib.Seq.{sets}
-use Rattle.area.proofs.Sets.{sets-join, sets-front}
+use Rattle.area.proofs.Sets.{sets-then, sets-front}
 use Rattle.model.specs.Limits.{maxPlaces}
 use Rattle.model.specs.Bytes.{put16, put32, put16s}
 use Rattle.model.specs.Framing.{putRecord}
@@ -18,12 +18,6 @@ use Rattle.sheet_writer.specs.Places.{ArcsCounted, FitsPlaces}
 use Rattle.sheet_writer.specs.Write.{NoRouteWritten, FitsRoute, RouteWritten}
 use Rattle.sheet_writer.proofs.Follows.{one-list}
 
--- the next field after those that stand in the area
-next-field : {area₁ area : List ℕ} (area₀ xs ys : List ℕ) (j : ℕ) → j ≡ length xs → area₁ ≡ sets area₀ 0 xs → area ≡ sets area₁ j ys
-    → area ≡ sets area₀ 0 (xs ++ ys)
-next-field area₀ xs ys j q e f =
-    f ∙ ap (λ (l : List ℕ). sets l j ys) e ∙ sets-join xs ys area₀ 0 j (omega arith)
-
 over : (new area₀ area : List ℕ) → length new ≤ length area₀ → area ≡ sets area₀ 0 new → area ≡ overFront new area₀
 unfolding overFront
 over new area₀ area h e = e ∙ sets-front new area₀ h
@@ -34,7 +28,7 @@ pub no-route-written : {start : ℕ} {area₀ area₁ area₂ area : List ℕ} �
 unfolding noRouteSheet putRecord put16
 no-route-written {start} {area₀} {area₁} {area₂} {area} h e₁ e₂ e₃ =
     let all : area ≡ sets area₀ 0 (noRouteSheet start) =
-    next-field area₀ (put16 2 ++ put16 noRouteKind) (put16 start) 4 refl (next-field area₀ (put16 2) (put16 noRouteKind) 2 refl e₁ e₂) e₃ in
+    sets-then area₀ (put16 2 ++ put16 noRouteKind) (put16 start) 0 4 refl (sets-then area₀ (put16 2) (put16 noRouteKind) 0 2 refl e₁ e₂) e₃ in
     record { bytes = refl; written = over (noRouteSheet start) area₀ area h all }
 
 pub header-written : {cost count : ℕ} {area₀ area₁ area₂ area₃ area : List ℕ}
@@ -43,9 +37,9 @@ pub header-written : {cost count : ℕ} {area₀ area₁ area₂ area₃ area : 
 unfolding header put16 put32
 header-written {cost} {count} {area₀} e₁ e₂ e₃ e₄ =
     let x = put16 (6 + 2 * count) in
-    let kind = next-field area₀ x (put16 routeKind) 2 refl e₁ e₂ in
-    let to-cost = next-field area₀ (x ++ put16 routeKind) (put32 cost) 4 refl kind e₃ in
-    record { written = next-field area₀ (x ++ put16 routeKind ++ put32 cost) (put16 count) 8 refl to-cost e₄ }
+    let kind = sets-then area₀ x (put16 routeKind) 0 2 refl e₁ e₂ in
+    let to-cost = sets-then area₀ (x ++ put16 routeKind) (put32 cost) 0 4 refl kind e₃ in
+    record { written = sets-then area₀ (x ++ put16 routeKind ++ put32 cost) (put16 count) 0 8 refl to-cost e₄ }
 
 -- the header and the places make the sheet
 header-places : (cost : ℕ) (places : List ℕ) → header cost (length places) ++ put16s places ≡ routeSheet cost places
@@ -66,7 +60,7 @@ pub route-written : {n goal cost count : ℕ} {w area₀ area₁ area : List ℕ
     → HeaderWritten cost count area₀ area₁ → area ≡ sets area₁ 10 (put16s (h .leads .places)) → RouteWritten n goal cost w area₀ area (10 + 2 * count)
 route-written {cost = cost} {count = count} {area₀ = area₀} {area = area} h q e f =
     let places = h .leads .places in
-    let fields = next-field area₀ (header cost count) (put16s places) 10 (sym (header-length cost count)) (e .written) f in
+    let fields = sets-then area₀ (header cost count) (put16s places) 0 10 (omega (arith, header-length cost count)) (e .written) f in
     let sheet : header cost count ++ put16s places ≡ routeSheet cost places =
     ap (λ (k : ℕ). header cost k ++ put16s places) q ∙ header-places cost places in
     let k = route-length cost places in

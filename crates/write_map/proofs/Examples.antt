@@ -14,7 +14,8 @@ use Rattle.write_map.specs.Printed.{streams, streamsOf, answered, printe
 
 -- no record at all: "4" on standard error
 nothing : printed [] ≡ streams [] (52 ∷ 10 ∷ [])
-unfolding compute shortOutput outputRows writeRows writeRefusal writtenWith writeIf writeMap decimalUpTo decimal parted line streamsOf answered printed
+unfolding compute shortOutput outputRows writeRows writeRefusal writtenWith writeIf writeMap decimalUpTo decimal parted line
+    streamsOf answered printed
 nothing = refl
 
 -- two lanes out of order and an estimate of 0: in order, and without it

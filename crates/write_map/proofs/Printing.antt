@@ -55,7 +55,8 @@ map-within input work output = if-within _ (statedIn input) work output
 -- ---- What the texts hold
 
 -- after the call, with an output area as long as the longest input
-module _ {input before work out : List ℕ} {a : Answer} (size : length before ≡ 65536) (wrote : Wrote input (replicate 16384 0) before a work out) where
+module _ {input before work out : List ℕ} {a : Answer} (size : length before ≡ 65536)
+    (wrote : Wrote input (replicate 16384 0) before a work out) where
   abbrev result : Result
   result = record { answer = answerOf a; work = work; sheet = out }
 
