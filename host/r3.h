@@ -27,7 +27,8 @@ uint32_t r3_sheet(const uint8_t *sheet, size_t length, uint32_t question);
  * there is room for are stored in answer: number, cost, limit, floor, expansions, queries, sheet bytes. The number comes back.
  * 0: the route sheet is at the front of the sheet area
  * 1 to 15 and 20: refused, and neither area has changed
- * 16: the allowance is spent; the sheet area has not changed
+ * 16: the allowance is spent, and no route costs less than floor where no estimate overstates; the sheet area has not changed. The same
+ *     input with a larger allowance gives the answer, the same for all that are enough, or 16 again with a floor no lower
  * 17: no goal can be reached; the no-route sheet is at the front of the sheet area
  * After 0, 16 and 17 the first 16 * N + 2 * M words of work are 0. No other word or byte changes.
  * A map of N places and M arcs asks for the words and bytes below, or gets 14 or 15. R3_WORDS and R3_BYTES are enough for all. */

@@ -23,3 +23,12 @@ inline std::vector<long> least_costs(const Map &m)
     boost::dijkstra_shortest_paths(graph, m.places, boost::distance_map(kept));
     return far;
 }
+
+// whether an estimate is above the least cost from its place to a goal
+inline bool overstates(const Map &m, const std::vector<long> &far)
+{
+    for (uint32_t v = 0; v < m.places; v++)
+        if (m.estimate[v] != plain::none && m.estimate[v] > far[v])
+            return true;
+    return false;
+}

@@ -72,10 +72,8 @@ class Test {
         long cheapest = far[map_.start];
         if (cheapest == unreached)
             return a.number == 17;
-        bool overstates = false; // then the route may be dearer
-        for (uint32_t v = 0; v < map_.places; v++)
-            overstates = overstates || (map_.estimate[v] != plain::none && map_.estimate[v] > far[v]);
-        return a.number == 0 && (overstates ? a.cost >= cheapest : a.cost == cheapest) && is_route();
+        bool dearer = overstates(map_, far); // then the route may be
+        return a.number == 0 && (dearer ? a.cost >= cheapest : a.cost == cheapest) && is_route();
     }
 
     // the sheet's places lead from the start to a goal along arcs whose least costs sum to the cost

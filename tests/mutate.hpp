@@ -91,3 +91,22 @@ class Mutator {
     Change *change_bytes_;
     Records records_;
 };
+
+// changes bytes where no fuzzer does
+inline size_t some_bytes(uint8_t *data, size_t size, size_t)
+{
+    static std::minstd_rand chance;
+    std::generate_n(data, size, [] { return static_cast<uint8_t>(chance() >> 8); });
+    return size;
+}
+
+// an input of at most so many bytes: these records after one to three changes
+inline Bytes mutated(const Records &records, unsigned seed, size_t most)
+{
+    Mutator mutator(records, seed, some_bytes);
+    for (uint32_t i = 1 + mutator.below(3); i != 0 && !mutator.empty(); i--)
+        mutator.mutate();
+    Bytes input(most);
+    input.resize(mutator.write(input.data(), most));
+    return input;
+}

@@ -14,13 +14,6 @@ namespace {
 
 constexpr uint32_t largest_estimate = 268435455;
 
-size_t some_bytes(uint8_t *data, size_t size, size_t)
-{
-    static std::minstd_rand chance;
-    std::generate_n(data, size, [] { return static_cast<uint8_t>(chance() >> 8); });
-    return size;
-}
-
 Arc arc_of(const Bytes &r)
 {
     uint32_t last = plain::u16(&r[8]), lane_class = r[2] == 2 ? plain::none : plain::u16(&r[10]);
@@ -173,11 +166,7 @@ class Test {
 
     bool damaged()
     {
-        Mutator mutator(records_, below(1 << 30), some_bytes);
-        for (uint32_t i = 1 + below(3); i != 0 && !mutator.empty(); i--)
-            mutator.mutate();
-        Bytes input(Writing::most_bytes);
-        input.resize(mutator.write(input.data(), input.size()));
+        Bytes input = mutated(records_, below(1 << 30), Writing::most_bytes);
         if (below(16) == 0)
             input.resize(below(input.size() + 1));
         size_t places = 1, arcs = 0;

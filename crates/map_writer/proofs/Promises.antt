@@ -15,7 +15,7 @@ use Rattle.model.specs.Framing.{frame}
 use Rattle.model.specs.Stated.{statedIn}
 use Rattle.model.specs.Refusals.{Row, inputRefusal, workWords}
 use Rattle.model.specs.Answer.{Result, answer, overFront, refusedWith}
-use Rattle.model.specs.Calls.{Call, result, written, Program, KeepsTo, Keeps}
+use Rattle.model.specs.Calls.{Call, result, written, Alike, Program, KeepsTo, Keeps}
 use Rattle.model.proofs.Rows.{NoneHolds, first-given, none-given}
 use Rattle.model.proofs.Acceptance.{states-factors, states-growth}
 use Rattle.map_writer.specs.Canonical.{canonical, putStated, write}
@@ -66,7 +66,7 @@ pub record Rewrites (P R : Program) (c : Call) (r : Result) : Type 0 where
   pub again : (d : Call) (q : Result) → P d q → d .input ≡ written r → q .answer .number ≡ 0 → written q ≡ written r
   -- "A sheet from the rewritten map is the same as before", and so are all seven numbers, with any lent areas of equal lengths
   pub same-route : (d e : Call) (q p : Result) → R d q → R e p → d .input ≡ c .input → e .input ≡ written r
-      → length (d .work) ≡ length (e .work) → length (d .sheet) ≡ length (e .sheet) → (p .answer ≡ q .answer) × (written p ≡ written q)
+      → length (d .work) ≡ length (e .work) → length (d .sheet) ≡ length (e .sheet) → Alike p q
 
 pub record Promises (P R : Program) : Type 0 where
   pub ends : (c : Call) (r : Result) → P c r → Ends c r
@@ -143,7 +143,7 @@ module _ (P R : Program) (writes : KeepsTo rewritten P) (routes : Keeps R) where
         alike d c y x .1 (agree-back (statedIn (c .input)) (statedIn (d .input)) same) ∙ is-written c x
 
     same-route : (d e : Call) → d .input ≡ c .input → e .input ≡ b → length (d .work) ≡ length (e .work) → length (d .sheet) ≡ length (e .sheet)
-        → (result e .answer ≡ result d .answer) × (written (result e) ≡ written (result d))
+        → Alike (result e) (result d)
     same-route d e is-c is-b works sheets =
         rw (is-c, is-b) (written-routes (c .input) (c .bytes) (passes c x) (d .work) (e .work) (d .sheet) (e .sheet) works sheets)
 

@@ -10,13 +10,13 @@ use Rattle.model.specs.Items.{Size}
 use Rattle.model.specs.Stated.{Stated, statedIn, arcUnder, problemOf}
 use Rattle.model.specs.Refusals.{workWords, roomRows, firstThatHolds, firstOf, refusal, inputRefusal, Accepted}
 use Rattle.model.specs.Endings.{Ending, budgeted}
-use Rattle.model.specs.Answer.{Result, refusedWith, endedWith, callIf, call, route}
-use Rattle.model.specs.Calls.{written}
+use Rattle.model.specs.Answer.{endedWith, callIf, call, route}
+use Rattle.model.specs.Calls.{Alike}
 use Rattle.model.specs.Terms.{SameProblem}
 use Rattle.model.proofs.Rows.{refusal-parts}
 use Rattle.model.proofs.Acceptance.{accepted-valid}
 use Rattle.model.proofs.Same.{same-ending}
-use Rattle.model.proofs.Promises.{comes}
+use Rattle.model.proofs.Promises.{same-calls}
 use Rattle.sort.proofs.SortLaws.{sort-member}
 use Rattle.map_writer.specs.Order.{noLater}
 use Rattle.map_writer.specs.Canonical.{canonical, write}
@@ -41,22 +41,12 @@ canonical-problem s inside =
       goal-from = λ g i. i;
     }
 
--- the answer is the same, and the sheet that is written
-abbrev pub Alike : Result → Result → Type 0
-Alike r q = (r .answer ≡ q .answer) × (written r ≡ written q)
-
--- both depend on the lengths of the lent areas, and not on what they hold
-pub lengths-decide : (input : List ℕ) → Bytes input → (work work′ sheet sheet′ : List ℕ) → length work ≡ length work′ → length sheet ≡ length sheet′
+-- numbers and sheet depend on the lengths of the lent areas, and not on what they hold
+lengths-decide : (input : List ℕ) → Bytes input → (work work′ sheet sheet′ : List ℕ) → length work ≡ length work′ → length sheet ≡ length sheet′
     → Alike (route input work′ sheet′) (route input work sheet)
-unfolding call callIf refusedWith
-lengths-decide input B work work′ sheet sheet′ words bytes = go (refusal (frame input) (length work) (length sheet)) refl
-  where
-    go : (n : ℕ) → refusal (frame input) (length work) (length sheet) ≡ n → Alike (route input work′ sheet′) (route input work sheet)
-    go zero e =
-        let one = comes (record { input = input; work = work; sheet = sheet; bytes = B }) e in
-        let other = comes (record { input = input; work = work′; sheet = sheet′; bytes = B }) (rw (← words, ← bytes) e) in
-        (other .answer-is ∙ sym (one .answer-is), other .on-sheet ∙ sym (one .on-sheet))
-    go (suc n) e = rw (← words, ← bytes, e) (refl, refl)
+lengths-decide input B work work′ sheet sheet′ words bytes =
+    same-calls (record { input = input; work = work′; sheet = sheet′; bytes = B }) (record { input = input; work = work; sheet = sheet; bytes = B })
+    (rw (words, bytes)) (λ A. refl)
 
 module _ (input : List ℕ) (B : Bytes input) (passes : inputRefusal (frame input) ≡ 0) where
   abbrev s : Stated

@@ -15,10 +15,11 @@ use Rattle.model.specs.Refusals.{unknownKind, beginsWithHead, wrongHead, wrongM
 use Rattle.model.specs.Refusals.{formRows, sizeRows, mapRows, jobRows, inputRows, firstThatHolds, holdsAt, inputRefusal}
 use Rattle.model.proofs.Lists.{none-some, any-false, filterMap-member}
 use Rattle.model.proofs.Charges.{IsTable, fixed-table, lane-cost-below}
-use Rattle.model.proofs.Bytes.{u16-below}
+use Rattle.model.proofs.Bytes.{u32-below}
 use Rattle.model.proofs.Items.{KindOf, is-job, kind-of}
 use Rattle.model.proofs.Rows.{row-fails, input-numbered}
-use Rattle.model.proofs.Acceptance.{body-bytes, flat-below, states-factors, states-growth}
+use Rattle.model.proofs.Records.{records-fit}
+use Rattle.model.proofs.Acceptance.{flat-below, states-factors, states-growth}
 use Rattle.load.specs.Load.{Fit}
 use Rattle.map_writer.specs.Canonical.{canonical, putStated, write}
 use Rattle.map_writer.proofs.WrittenRecords.{Storable, put-bytes, put-framed}
@@ -61,10 +62,6 @@ stated-fit input B A l i =
       cost = lane-cost-below (s .factors) table (l .charge) (flat-below input B l i) measure;
     }
 
-u32-below : (b : List ℕ) (i : ℕ) → Bytes b → u32 b i < 2 ^ 32
-unfolding u32
-u32-below b i B = omega (arith, u16-below b i B, u16-below b (i + 2) B)
-
 -- a job's allowance is a field of the body
 allowance-field : (r : Record) (j : Job) → jobIn (itemOf r) ≡ some j → j .allowance ≡ u32 (r .body) 2
 unfolding jobIn jobOf
@@ -88,7 +85,7 @@ allowance-below input B = go (filterMap jobIn (items (frame input .records))) (�
     go (j ∷ js) h =
         let (i, m, has) = h j (List·Memᴰ·head refl) in
         let (r, n, of) = Memᴰ·of-map itemOf (frame input .records) m in
-        rw (allowance-field r j (rw of has)) (u32-below (r .body) 2 (body-bytes (length input) input B r n))
+        rw (allowance-field r j (rw of has)) (u32-below (r .body) 2 (records-fit (length input) input B r n .bytes))
 
 -- ---- what records there are
 

@@ -1,14 +1,14 @@
 -- What acceptance gives: each condition is false, and the problem is valid. Assumes nothing.
 use mathlib.Core.Path.{_≡_, refl}
 use mathlib.Core.Bool.{Bool, true, false, cond}
-use mathlib.Core.List.{List, [], _∷_, List·Memᴰ, List·Memᴰ·head, List·Memᴰ·tail, List·Memᴰ·not-nil, Memᴰ·of-map}
-use Prim.Native.Nat.{ℕ, zero, suc, _+_, _*_, _≤_}
+use mathlib.Core.List.{List, [], _∷_, List·Memᴰ, List·Memᴰ·head, List·Memᴰ·tail, Memᴰ·of-map}
+use Prim.Native.Nat.{ℕ, _≤_}
 use native.Mathlib.Omega.{arith}
 use lib.Dec.{leb, eqb}
-use lib.ListN.{length, take, drop}
+use lib.ListN.{length}
 use borrow.Author.Tests.{ltb-false, leb-false, eqb-true, not-false}
 use Rattle.model.specs.Bytes.{Bytes}
-use Rattle.model.specs.Framing.{Record, stop, push, frame, frameUpTo}
+use Rattle.model.specs.Framing.{Record, frame}
 use Rattle.model.specs.Limits.{maxCost, maxEstimate}
 use Rattle.model.specs.Problem.{Valid}
 use Rattle.model.specs.Items.{flat, Lane, Estimate, itemOf, items, laneIn}
@@ -16,7 +16,8 @@ use Rattle.model.specs.Stated.{fixedFactors, statedBy, stated, statedIn,
 use Rattle.model.specs.Refusals.{wrongSize, outsideMap, freeArc, largeEstimate, wrongMeasure, jobOutsideMap, wrongGoals, goalEstimate}
 use Rattle.model.specs.Refusals.{formRows, sizeRows, mapRows, jobRows, inputRows, roomRows, rows, holdsAt, refusal, Accepted}
 use Rattle.model.proofs.Lists.{neither, any-false, filterMap-member}
-use Rattle.model.proofs.Bytes.{take-bytes, drop-bytes, u16-below}
+use Rattle.model.proofs.Bytes.{u16-below}
+use Rattle.model.proofs.Records.{records-fit}
 use Rattle.model.proofs.Items.{flat-field}
 use Rattle.model.proofs.Charges.{IsTable, fixed-table, lane-cost-above, lane-cost-below}
 use Rattle.model.proofs.Rows.{row-fails, rows-numbered}
@@ -24,28 +25,6 @@ use Rattle.model.proofs.Rows.{row-fails, rows-numbered}
 some-member : {A : Type 0} (xs : List A) → 1 ≤ length xs → (x : A) × List·Memᴰ x xs
 some-member [] h = absurd (omega arith)
 some-member (x ∷ xs) h = (x, List·Memᴰ·head refl)
-
--- the bodies of the records in bytes are bytes
-pub body-bytes : (k : ℕ) (bs : List ℕ) → Bytes bs → (r : Record) → List·Memᴰ r (frameUpTo k bs .records) → Bytes (r .body)
-unfolding frameUpTo
-body-bytes zero bs B r i = absurd (List·Memᴰ·not-nil i)
-body-bytes (suc k) [] B r i = absurd (List·Memᴰ·not-nil i)
-body-bytes (suc k) (a ∷ []) B r i = absurd (List·Memᴰ·not-nil i)
-body-bytes (suc k) (a ∷ b ∷ []) B r i = absurd (List·Memᴰ·not-nil i)
-body-bytes (suc k) (a ∷ b ∷ c ∷ []) B r i = absurd (List·Memᴰ·not-nil i)
-body-bytes (suc k) (a ∷ b ∷ c ∷ d ∷ rest) B r i =
-    let n = a + 256 * b in
-    let bytes : Bytes rest = drop-bytes 4 (a ∷ b ∷ c ∷ d ∷ rest) B in
-    go n bytes (body-bytes k (drop n rest) (drop-bytes n rest bytes) r) (leb n (length rest)) i
-  where
-    first : ℕ → Record
-    first n = record { kind = c + 256 * d; body = take n rest }
-
-    go : (n : ℕ) → Bytes rest → (List·Memᴰ r (frameUpTo k (drop n rest) .records) → Bytes (r .body)) → (t : Bool)
-        → List·Memᴰ r (cond t (push (first n) (frameUpTo k (drop n rest))) (stop true) .records) → Bytes (r .body)
-    go n bytes later true (List·Memᴰ·head e) = rw e (take-bytes n rest bytes)
-    go n bytes later true (List·Memᴰ·tail i) = later i
-    go n bytes later false i = absurd (List·Memᴰ·not-nil i)
 
 pub lookup-below : (es : List Estimate) (m : ℕ) → ((e : Estimate) → List·Memᴰ e es → e .value ≤ m) → (v : ℕ) → lookup 0 es v ≤ m
 unfolding lookup
@@ -64,7 +43,7 @@ flat-below input B l i cost e =
     let (k, m, has) = filterMap-member laneIn (items (frame input .records)) l .0 i in
     let (r, n, of) = Memᴰ·of-map itemOf (frame input .records) m in
     let field = flat-field r l cost (rw of has) e in
-    rw field (omega (arith, u16-below (r .body) 4 (body-bytes (length input) input B r n)))
+    rw field (omega (arith, u16-below (r .body) 4 (records-fit (length input) input B r n .bytes)))
 
 -- no record states factors or a growth
 pub states-factors : (rs : List Record) → stated rs .factors ≡ fixedFactors

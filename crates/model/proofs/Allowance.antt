@@ -1,18 +1,18 @@
 -- Where the allowance cuts the queries. Assumes nothing.
-use mathlib.Core.Path.{_≡_, refl, ap, sym, _∙_}
+use mathlib.Core.Path.{_≡_, refl, ap, ap₂, sym, _∙_}
 use mathlib.Core.Logic.{_↔_}
 use mathlib.Core.Bool.{Bool, true, false, cond}
-use mathlib.Core.List.{List, [], _∷_, _++_, getLastD, List·Memᴰ}
-use mathlib.Core.List.{List·Memᴰ·head, List·Memᴰ·tail, List·Memᴰ·not-nil, Memᴰ·append-right, head-eq-of-cons-eq, tail-eq-of-cons-eq}
+use mathlib.Core.List.{List, [], _∷_, _++_, getLastD}
+use mathlib.Core.List.{head-eq-of-cons-eq, tail-eq-of-cons-eq}
 use Prim.Native.Nat.{ℕ, _+_, _-_, _≤_, _<_}
-use native.Mathlib.Nat.{le-refl, le-trans}
+use native.Mathlib.Nat.{le-refl}
 use native.Mathlib.Omega.{arith}
 use lib.Dec.{ltb}
-use lib.ListN.{length}
+use lib.ListN.{length, length-append}
 use borrow.Author.Tests.{ltb-true, ltb-false, lt-ltb, le-ltb}
 use Rattle.model.specs.Problem.{Problem}
 use Rattle.model.specs.Rounds.{Step, firstRound, ask, trace, total, begun, search}
-use Rattle.model.specs.Terms.{Finished, LowNeverFalls, CutAt}
+use Rattle.model.specs.Terms.{Finished, CutAt}
 
 last-cons : {A : Type 0} (x d : A) (xs : List A) → getLastD (x ∷ xs) d ≡ getLastD xs x
 unfolding getLastD
@@ -67,6 +67,11 @@ pub spent-cut : (p : Problem) (a : ℕ) → a < total (trace p)
 unfolding search
 spent-cut p a h = (rw (lt-ltb a (total (trace p)) h) refl, begun-cut a (trace p) (ask p (firstRound p)) h)
 
+-- allowances that last for all queries make no difference
+pub lasting-same : (p : Problem) (a b : ℕ) → total (trace p) ≤ a → total (trace p) ≤ b → search p a ≡ search p b
+unfolding search
+lasting-same p a b h k = rw (begun-all a (trace p) h, begun-all b (trace p) k, le-ltb a (total (trace p)) h, le-ltb b (total (trace p)) k) refl
+
 -- a finished trace is not empty, so that it has a last query
 pub not-spent : (p : Problem) (a : ℕ) → Finished (trace p) → total (trace p) ≤ a
     → (search p a .expansions ≡ total (trace p)) × (search p a .queries ≡ length (trace p))
@@ -79,38 +84,38 @@ not-spent p a f h =
     last [] f = absurd f
     last (s ∷ ss) f = ends-in-last s (ask p (firstRound p)) ss
 
--- the first query's low is at most that of each query in the list
-low-first : (s t : Step) (ss : List Step) → LowNeverFalls (s ∷ ss) → List·Memᴰ t ss → s .round .low ≤ t .round .low
-unfolding LowNeverFalls
-low-first s t [] l i = absurd (List·Memᴰ·not-nil i)
-low-first s t (u ∷ ss) l (List·Memᴰ·head e) = rw e (l .0)
-low-first s t (u ∷ ss) l (List·Memᴰ·tail i) = le-trans (l .0) (low-first u t ss (l .1) i)
-
-low-tail : (s : Step) (ss : List Step) → LowNeverFalls (s ∷ ss) → LowNeverFalls ss
-unfolding LowNeverFalls
-low-tail s [] l = tt
-low-tail s (t ∷ ss) l = l .1
-
--- of two splits of the queries, that with less before its query is the earlier
-split-order : (x y l m : List Step) (s t : Step) → x ++ (s ∷ l) ≡ y ++ (t ∷ m) → LowNeverFalls (x ++ (s ∷ l))
-    → total x < total y + t .query .cost → (length x ≤ length y) × (s .round .low ≤ t .round .low)
+-- Of two splits of the queries, with less before the first one's query than up to and with the second one's, the second is the later: the queries
+-- before it are those before the first, and then these.
+split-order : (x y l m : List Step) (s t : Step) → x ++ (s ∷ l) ≡ y ++ (t ∷ m) → total x < total y + t .query .cost
+    → (zs : List Step) × (y ≡ x ++ zs) × (s ∷ l ≡ zs ++ (t ∷ m))
 unfolding total
-split-order [] [] l m s t e f h =
-    let same : s ≡ t = head-eq-of-cons-eq e in
-    (omega arith, rw same (le-refl _))
-split-order [] (v ∷ y) l m s t e f h =
-    let inside : List·Memᴰ t l = rw (tail-eq-of-cons-eq e) (Memᴰ·append-right y (List·Memᴰ·head refl)) in
-    (omega arith, low-first s t l f inside)
-split-order (u ∷ x) [] l m s t e f h =
+split-order [] y l m s t e h = (y, refl, e)
+split-order (u ∷ x) [] l m s t e h =
     let same : u .query .cost ≡ t .query .cost = ap (λ (z : Step). z .query .cost) (head-eq-of-cons-eq e) in
     absurd (omega arith)
-split-order (u ∷ x) (v ∷ y) l m s t e f h =
+split-order (u ∷ x) (v ∷ y) l m s t e h =
     let same : u .query .cost ≡ v .query .cost = ap (λ (z : Step). z .query .cost) (head-eq-of-cons-eq e) in
-    let r = split-order x y l m s t (tail-eq-of-cons-eq e) (low-tail u (x ++ (s ∷ l)) f) (omega arith) in
-    (omega arith, r .1)
+    let (zs, front, rest) = split-order x y l m s t (tail-eq-of-cons-eq e) (omega arith) in
+    (zs, ap₂ (λ (z : Step) (zs : List Step). z ∷ zs) (sym (head-eq-of-cons-eq e)) front, rest)
 
-pub cut-forward : (ss : List Step) → LowNeverFalls ss → (a b m n : ℕ) (s t : Step) → a ≤ b → CutAt a ss s m → CutAt b ss t n
-    → (m ≤ n) × (s .round .low ≤ t .round .low)
-cut-forward ss l a b m n s t h x y =
-    let r = split-order (x .earlier) (y .earlier) (x .later) (y .later) s t (sym (x .split) ∙ y .split) (rw (x .split) at l) (omega arith) in
-    (omega arith, r .1)
+module _ (ss : List Step) (a b m n : ℕ) (s t : Step) (h : a ≤ b) (x : CutAt a ss s m) (y : CutAt b ss t n) where
+  -- with more allowance the cut moves only forward
+  pub cut-forward : (zs : List Step) × (y .earlier ≡ x .earlier ++ zs) × (s ∷ x .later ≡ zs ++ (t ∷ y .later))
+  cut-forward = split-order (x .earlier) (y .earlier) (x .later) (y .later) s t (sym (x .split) ∙ y .split) (omega (arith, x .lasts, y .exceeds))
+
+  pub cut-later : m ≤ n
+  cut-later =
+      let (zs, front, rest) = cut-forward in
+      omega (arith, x .counted, y .counted, ap length front, length-append (x .earlier) zs)
+
+-- an allowance has one cut
+pub cut-once : (ss : List Step) (a m n : ℕ) (s t : Step) → CutAt a ss s m → CutAt a ss t n → (s ≡ t) × (m ≡ n)
+cut-once ss a m n s t x y =
+    let later = cut-later ss a a m n s t (le-refl a) x y in
+    let earlier = cut-later ss a a n m t s (le-refl a) y x in
+    let (zs, front, rest) = cut-forward ss a a m n s t (le-refl a) x y in
+    (at-once zs (omega (arith, x .counted, y .counted, ap length front, length-append (x .earlier) zs)) rest, omega arith)
+  where
+    at-once : (zs : List Step) → length zs ≡ 0 → s ∷ x .later ≡ zs ++ (t ∷ y .later) → s ≡ t
+    at-once [] none e = head-eq-of-cons-eq e
+    at-once (z ∷ zs) none e = absurd (omega arith)

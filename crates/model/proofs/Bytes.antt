@@ -2,6 +2,7 @@
 use mathlib.Core.Path.{_≡_, refl, sym, ap, ap₂, _∙_}
 use mathlib.Core.List.{List, [], _∷_, _++_, append-assoc}
 use Prim.Native.Nat.{ℕ, zero, suc, _+_, _*_, _/_, _%_, _^_, _≤_, _<_}
+use native.Mathlib.Nat.{add-assoc}
 use native.Mathlib.Numerals.{add-one}
 use native.Mathlib.Omega.{arith}
 use lib.ListN.{length, getD, take, drop, length-append}
@@ -22,6 +23,10 @@ pub u16-below : (b : List ℕ) (i : ℕ) → Bytes b → u16 b i < 65536
 unfolding u16
 u16-below b i h = omega (arith, h i, h (i + 1))
 
+pub u32-below : (b : List ℕ) (i : ℕ) → Bytes b → u32 b i < 2 ^ 32
+unfolding u32
+u32-below b i h = omega (arith, u16-below b i h, u16-below b (i + 2) h)
+
 pub put16s-length : (xs : List ℕ) → length (put16s xs) ≡ 2 * length xs
 unfolding put16 put16s
 put16s-length [] = refl
@@ -31,6 +36,16 @@ pub u16s-length : (n : ℕ) (b : List ℕ) (i : ℕ) → length (u16s n b i) ≡
 unfolding u16s
 u16s-length zero b i = refl
 u16s-length (suc n) b i = ap suc (u16s-length n b (i + 2))
+
+-- fields behind a front are those of what follows it
+pub u16-behind : (xs ys : List ℕ) (i : ℕ) → u16 (xs ++ ys) (length xs + i) ≡ u16 ys i
+unfolding u16
+u16-behind xs ys i = rw (getD-append-add xs ys i, add-assoc (length xs) i 1, getD-append-add xs ys (i + 1)) refl
+
+pub u16s-behind : (n : ℕ) (xs ys : List ℕ) (i : ℕ) → u16s n (xs ++ ys) (length xs + i) ≡ u16s n ys i
+unfolding u16s
+u16s-behind zero xs ys i = refl
+u16s-behind (suc n) xs ys i = rw (u16-behind xs ys i, add-assoc (length xs) i 2, u16s-behind n xs ys (i + 2)) refl
 
 -- a number of two bytes, or of two fields, is written as these
 pub put16-bytes : (x y : ℕ) → x < 256 → y < 256 → put16 (x + 256 * y) ≡ x ∷ y ∷ []

@@ -5,7 +5,7 @@ use mathlib.Core.Path.{_≡_, sym, ap, subst, subst⁻¹, _∙_}
 use mathlib.Core.Logic.{_↔_, _⊎_, inl, inr}
 use mathlib.Core.Bool.{true}
 use mathlib.Core.List.{List, [], _∷_, _++_}
-use Prim.Native.Nat.{ℕ, _+_, _-_, _*_, _≤_, _<_}
+use Prim.Native.Nat.{ℕ, _+_, _-_, _*_, _^_, _≤_, _<_}
 use native.Mathlib.Nat.{le-trans}
 use native.Mathlib.Omega.{arith}
 use lib.ListN.{length}
@@ -22,8 +22,10 @@ use Rattle.model.specs.Sheets.{routeSheet, noRouteSheet, reading, refuse
 use Rattle.model.specs.Routes.{routeTo, firstRoute}
 use Rattle.model.specs.Endings.{budgetedBy}
 use Rattle.model.specs.Answer.{Result, answer, refusedWith, call}
-use Rattle.model.specs.Calls.{Call, problem, allowance, IsAccepted, result, written, Program, Defined, Keeps, Writes}
+use Rattle.model.specs.Calls.{Call, problem, allowance, IsAccepted, result, written, Spent, Alike, Program, Defined, Keeps, Writes}
+use Rattle.model.specs.Allowances.{DifferInAllowance}
 use Rattle.model.specs.Jobs.{routeJob, noRouteJob}
+use Rattle.model.specs.Terms.{endsBetween}
 use Rattle.model.proofs.Laws.{admissible-total, never-spent-at-2, has-cheapest}
 use Rattle.model.proofs.Acceptance.{states-growth}
 use Rattle.model.proofs.Sheets.{refused-otherwise}
@@ -34,6 +36,9 @@ use Rattle.model.proofs.Promises.{spent-if-exceeded, none-if-unreachabl
 use Rattle.model.proofs.Promises.{none-sheet-is, route-sheet-is, placesOf, none-read-back, route-reads-back, first-within, first-cheapest}
 use Rattle.model.proofs.Promises.{SheetSays, sheet-says, first-sheet, none-sheet, equal-routes, equal-starts, never-equal}
 use Rattle.model.proofs.RouteRules.{SameNumbers, same-numbers}
+use Rattle.model.proofs.LongerAllowance.{both-accepted, allowances-read, unspent-alike, unspent-longer}
+use Rattle.model.proofs.LongerAllowance.{floor-longer, floor-rises-longer, no-fewer-longer, floor-below}
+use Rattle.model.proofs.SentAgain.{sent-again}
 use Rattle.model.proofs.Realized.{accepted-route-written, accepted-no-route-written}
 
 -- Demand 1: if the map, the job or the lent memory breaks a rule, the call ends with the number that the papers give, and every lent
@@ -223,6 +228,47 @@ pub record CountsStay (c : Call) (r : Result) : Type 0 where
 counts-stay : (c : Call) → CountsStay c (result c)
 counts-stay c = record { numbers = same-numbers firstRoute routeTo (c .input) (c .work) (c .sheet) }
 
+-- Document 02, paper 4, of two calls "that differ only in the allowance", a in c and b in d, and come to r and s.
+pub record TwoAllowances (a b : ℕ) (c d : Call) (r s : Result) : Type 0 where
+  -- whether the input is refused does not depend on the allowance; where it is not, a and b are the allowances of the search
+  pub accepted : IsAccepted c ↔ IsAccepted d
+  pub allowances : IsAccepted c → (allowance c ≡ a) × (allowance d ≡ b)
+  -- "if neither gives 16, all seven numbers and the sheet are equal": those of a refusal too
+  pub same : (Spent r → ⊥) → (Spent s → ⊥) → Alike r s
+  -- "if the smaller one doesn't give 16, nor does the larger"
+  pub lasts : a ≤ b → (Spent r → ⊥) → Spent s → ⊥
+  -- "if both do, the larger one's floor is at least the other's"
+  pub floor : a ≤ b → Spent r → Spent s → r .answer .floor ≤ s .answer .floor
+  -- beyond the paper: it is higher exactly where a query is ended that the larger one completes and the smaller one does not
+  pub floor-rises : a ≤ b → Spent r → Spent s
+      → (r .answer .floor < s .answer .floor) ↔ (endsBetween (r .answer .queries) (s .answer .queries) (trace (problem c)) ≡ true)
+  -- and the larger one never expands fewer places or begins fewer queries
+  pub no-fewer : a ≤ b → (r .answer .expansions ≤ s .answer .expansions) × (r .answer .queries ≤ s .answer .queries)
+
+-- Document 02, paper 4.
+pub record LongerAllowance (P : Program) : Type 0 where
+  pub two-allowances : (a b : ℕ) (c d : Call) (r s : Result) → P c r → P d s → DifferInAllowance a b c d → TwoAllowances a b c d r s
+  -- every accepted job can be sent again so, with any allowance
+  pub sent-again : (c : Call) → IsAccepted c → (b : ℕ) → b < 2 ^ 32 → (d : Call) × DifferInAllowance (allowance c) b c d
+  -- "Where no estimate overstates and a route exists, a floor is never above the cheapest cost."
+  pub floor-below : (c : Call) (r : Result) → P c r → Admissible (problem c) → (k : ℕ) → Cheapest (problem c) k → r .answer .floor ≤ k
+
+longer-allowance : LongerAllowance Defined
+longer-allowance = record {
+  two-allowances = λ a b c d r s g h differ.
+      rw (g, h) record {
+        accepted = both-accepted a b c d differ;
+        allowances = allowances-read a b c d differ;
+        same = unspent-alike a b c d differ;
+        lasts = unspent-longer a b c d differ;
+        floor = floor-longer a b c d differ;
+        floor-rises = floor-rises-longer a b c d differ;
+        no-fewer = no-fewer-longer a b c d differ;
+      };
+  sent-again = sent-again;
+  floor-below = λ c r g. rw g (floor-below c);
+}
+
 -- All demands, of a program.
 pub record Demands (P : Program) : Type 0 where
   pub demand-1 : (c : Call) (r : Result) → P c r → Demand1 c r
@@ -230,6 +276,7 @@ pub record Demands (P : Program) : Type 0 where
   pub demand-sheets : (b : List ℕ) → Bytes b → DemandSheets P b
   pub demand-3 : Demand3 P
   pub counts-stay : (c : Call) (r : Result) → P c r → CountsStay c r
+  pub longer-allowance : LongerAllowance P
 
 -- They hold of every program that keeps to the definition.
 pub demands : (P : Program) → Keeps P → Demands P
@@ -243,4 +290,9 @@ demands P keeps = record {
     some-cheapest = demand-3 .some-cheapest;
   };
   counts-stay = λ c r g. subst⁻¹ (λ x. CountsStay c x) (keeps .only c r g) (counts-stay c);
+  longer-allowance = record {
+    two-allowances = λ a b c d r s g h. longer-allowance .two-allowances a b c d r s (keeps .only c r g) (keeps .only d s h);
+    sent-again = longer-allowance .sent-again;
+    floor-below = λ c r g. longer-allowance .floor-below c r (keeps .only c r g);
+  };
 }

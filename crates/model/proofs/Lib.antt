@@ -1,6 +1,7 @@
 -- Laws of the definitions, in the order in which they rest on each other; the demands come last.
 pub mod Compute
 pub mod Runs
+pub mod AllowanceRuns
 pub mod Edges
 pub mod Lists
 pub mod Tests
@@ -26,13 +27,18 @@ pub mod LeastPaths
 pub mod Admissible
 pub mod Overstating
 pub mod Estimates
+pub mod JobAllowance
+pub mod Allowances
 pub mod Allowance
+pub mod Floors
 pub mod Sheets
 pub mod RouteSheets
 pub mod Same
 pub mod Endings
 pub mod RouteRules
 pub mod Promises
+pub mod LongerAllowance
+pub mod SentAgain
 pub mod Laws
 pub mod PlainJobs
 pub mod PlainAccepted

@@ -20,9 +20,9 @@ use Rattle.model.specs.Routes.{firstRoute}
 use Rattle.model.specs.Sheets.{routeSheet, noRouteSheet, reading, readSheet}
 use Rattle.model.specs.Endings.{Ending, spent, noRoute, routed, Engine, budgeted}
 use Rattle.model.specs.Answer.{answer, sheetOf, answerOf, overFront, Result, refusedWith, endedWith, callIf, call, route}
-use Rattle.model.specs.Calls.{Call, result, problem, allowance, IsAccepted, written}
+use Rattle.model.specs.Calls.{Call, result, problem, allowance, IsAccepted, written, Spent, Alike}
 use Rattle.model.proofs.Lists.{any-false}
-use Rattle.model.proofs.Rows.{NoneHolds, first-given, none-given, rows-numbered}
+use Rattle.model.proofs.Rows.{NoneHolds, first-given, none-given, rows-numbered, no-refusal-16}
 use Rattle.model.proofs.Acceptance.{accepted-valid}
 use Rattle.model.proofs.Total.{total-at-most}
 use Rattle.model.proofs.Routes.{first-cheapest-unique}
@@ -94,6 +94,34 @@ valid c A = accepted-valid (c .input) (length (c .work)) (length (c .sheet)) (c 
 
 pub ends : (c : Call) → IsAccepted c → Ends (problem c) (allowance c) (endingOf c)
 ends c A = budgeted-ends (problem c) (allowance c) (valid c A)
+
+-- the number with which the call is refused, 0 where it is accepted
+abbrev pub refusalOf : Call → ℕ
+refusalOf c = refusal (frame (c .input)) (length (c .work)) (length (c .sheet))
+
+-- calls that are refused alike and end alike have the same numbers and the same sheet
+pub same-calls : (c d : Call) → refusalOf c ≡ refusalOf d → (IsAccepted c → endingOf c ≡ endingOf d) → Alike (result c) (result d)
+unfolding call callIf refusedWith
+same-calls c d same ends-same = go (refusalOf c) refl
+  where
+    go : (n : ℕ) → refusalOf c ≡ n → Alike (result c) (result d)
+    go zero e =
+        let one = comes c e in
+        let other = comes d (sym same ∙ e) in
+        record {
+          numbers = one .answer-is ∙ ap answerOf (ends-same e) ∙ sym (other .answer-is);
+          sheets = one .on-sheet ∙ ap sheetOf (ends-same e) ∙ sym (other .on-sheet);
+        }
+    go (suc n) e = rw (← same, e) record { numbers = refl; sheets = refl }
+
+-- only an accepted call spends its allowance
+pub spent-accepted : (c : Call) → Spent (result c) → IsAccepted c
+unfolding call callIf refusedWith
+spent-accepted c is-spent = go (refusalOf c) refl
+  where
+    go : (n : ℕ) → refusalOf c ≡ n → IsAccepted c
+    go zero e = e
+    go (suc n) e = absurd (no-refusal-16 (frame (c .input)) (length (c .work)) (length (c .sheet)) (e ∙ (rw e at is-spent)))
 
 -- ---- What each ending is in the answer
 

@@ -1,17 +1,16 @@
 -- Records written one after another are framed as those records, and one record alone is read back as its bytes. Assumes nothing.
 use mathlib.Core.Path.{_≡_, refl, sym, ap, _∙_}
-use mathlib.Core.Bool.{Bool, true, false}
-use mathlib.Core.List.{List, [], _∷_, _++_, append-nil, List·Memᴰ, List·Memᴰ·head, List·Memᴰ·tail}
-use Prim.Native.Nat.{ℕ, _+_, _*_, _≤_, _<_}
+use mathlib.Core.Bool.{Bool, true, false, cond}
+use mathlib.Core.List.{List, [], _∷_, _++_, append-nil, List·Memᴰ, List·Memᴰ·head, List·Memᴰ·tail, List·Memᴰ·not-nil}
+use Prim.Native.Nat.{ℕ, zero, suc, _+_, _*_, _≤_, _<_}
 use native.Mathlib.Omega.{arith}
-use lib.ListN.{length, take, drop, length-drop}
-use lib.Seq.{take-all}
+use lib.ListN.{length, take, drop, length-take, take-append-drop}
+use lib.Seq.{length-take-le}
 use lib.Dec.{leb}
-use borrow.Author.Tests.{leb-true}
 use Rattle.model.specs.Bytes.{Bytes, put16}
 use Rattle.model.specs.Framing.{Record, Framed, stop, push, frame, frameUpTo, putRecord}
-use Rattle.model.proofs.Bytes.{no-bytes, append-bytes, put16-bytes, put16-is-bytes}
-use Rattle.model.proofs.Framing.{frame-cons, frame-none, frame-put}
+use Rattle.model.proofs.Bytes.{take-bytes, drop-bytes, no-bytes, append-bytes, put16-bytes, put16-is-bytes}
+use Rattle.model.proofs.Framing.{frame-none, frame-put, by-records, frame-more}
 
 -- ---- Records, one after another
 
@@ -46,20 +45,63 @@ frame-records (r ∷ rs) fit =
     let rest = frame-records rs (λ s i. fit s (List·Memᴰ·tail i)) in
     frame-put (r .kind) (r .body) (putRecords rs) (f .kind-below) (f .length-below) ∙ ap (push r) rest
 
+-- ---- The bytes of records
+
+-- the records in bytes fit
+pub records-fit : (k : ℕ) (bs : List ℕ) → Bytes bs → AllFit (frameUpTo k bs .records)
+unfolding frameUpTo
+records-fit zero bs B r i = absurd (List·Memᴰ·not-nil i)
+records-fit (suc k) [] B r i = absurd (List·Memᴰ·not-nil i)
+records-fit (suc k) (a ∷ []) B r i = absurd (List·Memᴰ·not-nil i)
+records-fit (suc k) (a ∷ b ∷ []) B r i = absurd (List·Memᴰ·not-nil i)
+records-fit (suc k) (a ∷ b ∷ c ∷ []) B r i = absurd (List·Memᴰ·not-nil i)
+records-fit (suc k) (a ∷ b ∷ c ∷ d ∷ rest) B r i =
+    let bytes : Bytes rest = drop-bytes 4 (a ∷ b ∷ c ∷ d ∷ rest) B in
+    let shorter = length-take n rest in
+    let fits : Fits first
+    = record { kind-below = omega (arith, B 2, B 3); length-below = omega (arith, B 0, B 1); bytes = take-bytes n rest bytes } in
+    go fits (records-fit k (drop n rest) (drop-bytes n rest bytes) r) (leb n (length rest)) i
+  where
+    n : ℕ
+    n = a + 256 * b
+
+    first : Record
+    first = record { kind = c + 256 * d; body = take n rest }
+
+    go : Fits first → (List·Memᴰ r (frameUpTo k (drop n rest) .records) → Fits r) → (t : Bool)
+        → List·Memᴰ r (cond t (push first (frameUpTo k (drop n rest))) (stop true) .records) → Fits r
+    go fits later true (List·Memᴰ·head e) = rw e fits
+    go fits later true (List·Memᴰ·tail i) = later i
+    go fits later false i = absurd (List·Memᴰ·not-nil i)
+
+-- four bytes and a body of as many bytes as the first two say are a record
+putRecord-parts : (a b c d : ℕ) (body : List ℕ) → Bytes (a ∷ b ∷ c ∷ d ∷ body) → length body ≡ a + 256 * b
+    → a ∷ b ∷ c ∷ d ∷ body ≡ putRecord (c + 256 * d) body
+unfolding putRecord
+putRecord-parts a b c d body h l = rw (l, put16-bytes a b (h 0) (h 1), put16-bytes c d (h 2) (h 3))
+
+-- Bytes that are whole records are the bytes of these.
+pub putRecords-frame : (bs : List ℕ) → Bytes bs → frame bs .broken ≡ false → putRecords (frame bs .records) ≡ bs
+unfolding stop push putRecords
+putRecords-frame bs B e = by-records ReadBack (λ B. rw (frame-none [] refl) refl) more bs e B
+  where
+    ReadBack : List ℕ → Type 0
+    ReadBack bs = Bytes bs → putRecords (frame bs .records) ≡ bs
+
+    more : (a b c d : ℕ) (rest : List ℕ) → a + 256 * b ≤ length rest → ReadBack (drop (a + 256 * b) rest) → ReadBack (a ∷ b ∷ c ∷ d ∷ rest)
+    more a b c d rest h later B =
+        let n = a + 256 * b in
+        let bytes : Bytes rest = drop-bytes 4 (a ∷ b ∷ c ∷ d ∷ rest) B in
+        let own = take-bytes (suc (suc (suc (suc n)))) (a ∷ b ∷ c ∷ d ∷ rest) B in
+        let parts = putRecord-parts a b c d (take n rest) own (length-take-le n rest h) in
+        rw (frame-more a b c d rest h, later (drop-bytes n rest bytes), ← parts)
+        (ap (λ (l : List ℕ). a ∷ b ∷ c ∷ d ∷ l) (take-append-drop n rest))
+
 -- ---- One record alone
 
 -- one whole record and nothing more
 abbrev pub alone : Record → Framed
 alone r = record { records = r ∷ []; broken = false }
-
--- a record put in front of others is alone only if nothing follows
-push-alone : (x r : Record) (f : Framed) → push x f ≡ alone r → (x ≡ r) × (f ≡ record { records = []; broken = false })
-unfolding push
-push-alone x r f e =
-    let one : x ∷ f .records ≡ r ∷ [] = ap (λ g. g .records) e in
-    let none : f .records ≡ [] = cc in
-    let whole : f .broken ≡ false = ap (λ g. g .broken) e in
-    (cc, λ i. record { records = none i; broken = whole i })
 
 -- a record's bytes are framed as that one record; and bytes that are framed as one whole record are its bytes
 pub frame-putRecord : (kind : ℕ) (body : List ℕ) → kind < 65536 → length body < 65536
@@ -68,44 +110,8 @@ unfolding stop push
 frame-putRecord kind body k l =
     ap frame (sym (append-nil (putRecord kind body))) ∙ frame-put kind body [] k l ∙ ap (push _) (frame-none [] refl)
 
--- where nothing is framed, nothing is left
-frame-empty : (b : List ℕ) → frame b ≡ record { records = []; broken = false } → b ≡ []
-unfolding frame frameUpTo stop push
-frame-empty [] e = refl
-frame-empty (a ∷ []) e = let no-end : true ≡ false = ap (λ f. f .broken) e in cc
-frame-empty (a ∷ b ∷ []) e = let no-end : true ≡ false = ap (λ f. f .broken) e in cc
-frame-empty (a ∷ b ∷ c ∷ []) e = let no-end : true ≡ false = ap (λ f. f .broken) e in cc
-frame-empty (a ∷ b ∷ c ∷ d ∷ rest) e = go (leb (a + 256 * b) (length rest)) refl
-  where
-    go : (t : Bool) → leb (a + 256 * b) (length rest) ≡ t → _≡_ {A = List ℕ} (a ∷ b ∷ c ∷ d ∷ rest) []
-    go true u = let no-record : _≡_ {A = List Record} (_ ∷ _) [] = ap (λ f. f .records) (rw u at e) in cc
-    go false u = let no-end : true ≡ false = ap (λ f. f .broken) (rw u at e) in cc
-
--- four bytes and a body of as many bytes as the first two say are a record
-putRecord-parts : (a b c d : ℕ) (body : List ℕ) → Bytes (a ∷ b ∷ c ∷ d ∷ body) → length body ≡ a + 256 * b
-    → a ∷ b ∷ c ∷ d ∷ body ≡ putRecord (c + 256 * d) body
-unfolding putRecord
-putRecord-parts a b c d body h l = rw (l, put16-bytes a b (h 0) (h 1), put16-bytes c d (h 2) (h 3))
-
 pub putRecord-frame : (b : List ℕ) (r : Record) → Bytes b → frame b ≡ alone r → b ≡ putRecord (r .kind) (r .body)
-unfolding frame frameUpTo stop
-putRecord-frame [] r h e = let no-record : [] ≡ r ∷ [] = ap (λ f. f .records) e in cc
-putRecord-frame (a ∷ []) r h e = let no-end : true ≡ false = ap (λ f. f .broken) e in cc
-putRecord-frame (a ∷ b ∷ []) r h e = let no-end : true ≡ false = ap (λ f. f .broken) e in cc
-putRecord-frame (a ∷ b ∷ c ∷ []) r h e = let no-end : true ≡ false = ap (λ f. f .broken) e in cc
-putRecord-frame (a ∷ b ∷ c ∷ d ∷ rest) r h e = go (leb n (length rest)) refl
-  where
-    n : ℕ
-    n = a + 256 * b
-
-    x : Record
-    x = record { kind = c + 256 * d; body = take n rest }
-
-    go : (t : Bool) → leb n (length rest) ≡ t → a ∷ b ∷ c ∷ d ∷ rest ≡ putRecord (r .kind) (r .body)
-    go true u =
-        let only = push-alone x r (frame (drop n rest)) (rw u at (sym (frame-cons a b c d rest) ∙ e)) in
-        let fits : n ≤ length rest = leb-true n (length rest) u in
-        let left : length rest ≤ n = omega (arith, length-drop n rest, ap length (frame-empty (drop n rest) (only .1))) in
-        let all : take n rest ≡ rest = take-all n rest left in
-        rw (← only .0, all) (putRecord-parts a b c d rest h (omega arith))
-    go false u = let no-end : true ≡ false = ap (λ f. f .broken) (rw u at e) in cc
+unfolding putRecords
+putRecord-frame b r h e =
+    sym (putRecords-frame b h (ap (λ (f : Framed). f .broken) e))
+    ∙ ap (λ (f : Framed). putRecords (f .records)) e ∙ append-nil (putRecord (r .kind) (r .body))

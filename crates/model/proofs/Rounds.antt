@@ -15,7 +15,7 @@ use Rattle.model.specs.Problem.{Problem, Valid}
 use Rattle.model.specs.Costs.{Table, costAt, table}
 use Rattle.model.specs.Query.{Outcome, ended, over, found, nothing, queryOn, query}
 use Rattle.model.specs.Rounds.{Round, Step, firstRound, limitOf, closeIf, settle, after, ask, next, goOn, traceUpTo, enough, trace}
-use Rattle.model.specs.Terms.{RoundKept, Final, Finished, LowNeverFalls}
+use Rattle.model.specs.Terms.{RoundKept, Final, Finished}
 use Rattle.model.proofs.Lists.{none-some}
 use Rattle.model.proofs.LeastCosts.{table-length, start-within}
 use Rattle.model.proofs.Keys.{within-length}
@@ -73,11 +73,6 @@ unfolding Finished
 finished-longer s [] n f = absurd f
 finished-longer s (t ∷ ss) n f = (n, f)
 
-low-rises : (p : Problem) (k : ℕ) (r s : Round) → r .low ≤ s .low → LowNeverFalls (traceUpTo k p s) → LowNeverFalls (ask p r ∷ traceUpTo k p s)
-unfolding traceUpTo LowNeverFalls ask
-low-rises p zero r s h f = tt
-low-rises p (suc k) r s h f = (h, f)
-
 abbrev pub round : ℕ → Option ℕ → ℕ → Round
 round low high b = record { low = low; high = high; budget = b }
 
@@ -115,7 +110,7 @@ module _ (p : Problem) (ok : Valid p) where
       go none e = omega arith
       go (some h) e = omega (arith, k .high-above h e)
 
-  ended-above : (C b x : ℕ) → query p C b .outcome ≡ ended x → C < x
+  pub ended-above : (C b x : ℕ) → query p C b .outcome ≡ ended x → C < x
   ended-above C b x e = next-above-limit p ok C x (ended-next p C b x e .1)
 
   -- 4095 × 65535 + 268435455 < 2 ^ 29
@@ -278,17 +273,3 @@ module _ (p : Problem) (ok : Valid p) where
     where
       light : weight p (firstRound p) < enough
       light = omega (arith, ok .few-places)
-
-  never-falls : (k : ℕ) (r : Round) → RoundKept p r → LowNeverFalls (traceUpTo k p r)
-  unfolding traceUpTo goOn LowNeverFalls ask
-  never-falls zero r g = tt
-  never-falls (suc k) r g = go (next p (ask p r)) refl (never-falls k)
-    where
-      go : (o : Option Round) → next p (ask p r) ≡ o → ((s : Round) → RoundKept p s → LowNeverFalls (traceUpTo k p s))
-          → LowNeverFalls (ask p r ∷ goOn o (traceUpTo k p))
-      go none e rest = tt
-      go (some s) e rest = let f = follows r s g e in low-rises p k r s (f .rises) (rest s (f .kept))
-
-  pub low-never-falls : LowNeverFalls (trace p)
-  unfolding trace
-  low-never-falls = never-falls enough (firstRound p) kept-first

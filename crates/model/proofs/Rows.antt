@@ -1,8 +1,9 @@
 -- Rows of conditions: the first that holds, found by its number, and groups of rows put together. Assumes nothing.
-use mathlib.Core.Path.{_≡_, refl}
+use mathlib.Core.Path.{_≡_, refl, sym}
 use mathlib.Core.Bool.{Bool, true, false, cond}
 use mathlib.Core.List.{List, [], _∷_, _++_, List·Memᴰ, List·Memᴰ·head, List·Memᴰ·tail}
 use Prim.Native.Nat.{ℕ, zero, suc}
+use native.Mathlib.Omega.{arith}
 use lib.Dec.{eqb}
 use borrow.Author.Tests.{eqb-false}
 use Rattle.model.specs.Lists.{any}
@@ -53,6 +54,18 @@ row-fails (r ∷ rs) numbered e n =
     go true here later = here
     go false here later = later
 
+-- a number that no row has is not given
+pub not-given : (n : ℕ) (rs : List Row) → any (λ (r : Row). eqb (r .number) n) rs ≡ false → firstThatHolds rs ≡ n → n ≡ 0
+unfolding any firstThatHolds
+not-given n [] other e = sym e
+not-given n (r ∷ rs) other e =
+    let apart = neither (eqb (r .number) n) _ other in
+    go (r .holds) (eqb-false (r .number) n (apart .0)) (not-given n rs (apart .1)) e
+  where
+    go : (t : Bool) → (r .number ≡ n → ⊥) → (firstThatHolds rs ≡ n → n ≡ 0) → cond t (r .number) (firstThatHolds rs) ≡ n → n ≡ 0
+    go true here later e = absurd (here e)
+    go false here later e = later e
+
 -- Groups put together give the first group's number, and the next one's where it gives none.
 pub groups : (rs ss : List Row) → Numbered rs → firstThatHolds (rs ++ ss) ≡ firstOf (firstThatHolds rs) (firstThatHolds ss)
 unfolding any firstThatHolds firstOf
@@ -72,6 +85,11 @@ groups (r ∷ rs) ss numbered =
 pub rows-numbered : (f : Framed) (words bytes : ℕ) → Numbered (rows f words bytes)
 unfolding rows inputRows formRows sizeRows mapRows jobRows roomRows any
 rows-numbered f words bytes = refl
+
+-- 16 is no refusal's number
+pub no-refusal-16 : (f : Framed) (words bytes : ℕ) → refusal f words bytes ≡ 16 → ⊥
+unfolding refusal rows inputRows formRows sizeRows mapRows jobRows roomRows any
+no-refusal-16 f words bytes e = let none : _≡_ {A = ℕ} 16 0 = not-given 16 (rows f words bytes) refl e in omega arith
 
 pub input-numbered : (f : Framed) → Numbered (inputRows f)
 unfolding inputRows formRows sizeRows mapRows jobRows any

@@ -35,6 +35,15 @@ module _ (c : Call) where
 abbrev pub written : Result → List ℕ
 written r = take (r .answer .sheet-bytes) (r .sheet)
 
+-- the allowance is spent
+abbrev pub Spent : Result → Type 0
+Spent r = r .answer .number ≡ 16
+
+-- all seven numbers are the same, and the sheet
+pub record Alike (r s : Result) : Type 0 where
+  pub numbers : r .answer ≡ s .answer
+  pub sheets : written r ≡ written s
+
 -- A program, by its promise: the results that a call may come to.
 abbrev pub Program : Type 1
 Program = Call → Result → Type 0

@@ -18,5 +18,6 @@ pub mod Sheets
 pub mod Endings
 pub mod Answer
 pub mod Calls
+pub mod Allowances
 pub mod Jobs
 pub mod Terms

@@ -1,9 +1,11 @@
 -- Words in which the laws speak of tables, rounds and traces.
 use mathlib.Core.Path.{_≡_}
+use mathlib.Core.Bool.{Bool, true, false}
 use mathlib.Core.List.{List, [], _∷_, _++_, List·Memᴰ}
 use mathlib.Core.Option.{Option, none, some}
-use Prim.Native.Nat.{ℕ, _+_, _*_, _≤_, _<_}
-use lib.ListN.{length}
+use Prim.Native.Nat.{ℕ, _+_, _-_, _*_, _≤_, _<_}
+use lib.ListN.{length, take, drop}
+use Rattle.model.specs.Lists.{any}
 use Rattle.model.specs.Limits.{maxEstimate}
 use Rattle.model.specs.Problem.{Problem, Arc, IsArc, IsGoal}
 use Rattle.model.specs.Paths.{Walk, places}
@@ -51,11 +53,6 @@ Finished [] = ⊥
 Finished (s ∷ []) = Final (s .query .outcome)
 Finished (s ∷ t ∷ ss) = (Final (s .query .outcome) → ⊥) × Finished (t ∷ ss)
 
-unfoldable pub LowNeverFalls : List Step → Type 0
-LowNeverFalls [] = Unit {0}
-LowNeverFalls (s ∷ []) = Unit {0}
-LowNeverFalls (s ∷ t ∷ ss) = (s .round .low ≤ t .round .low) × LowNeverFalls (t ∷ ss)
-
 -- the round closes after this query: the next budget is the grown one
 pub record Closes (p : Problem) (s : Step) : Type 0 where
   pub round : Round
@@ -70,6 +67,16 @@ pub record CutAt (allowance : ℕ) (ss : List Step) (s : Step) (n : ℕ) : Type 
   pub lasts : total earlier ≤ allowance
   pub exceeds : allowance < total earlier + s .query .cost
   pub counted : n ≡ length earlier + 1
+
+unfoldable pub isEnded : Outcome → Bool
+isEnded (ended x) = true
+isEnded over = false
+isEnded found = false
+isEnded nothing = false
+
+-- of the queries from the m-th on and before the n-th, some query is ended
+unfoldable pub endsBetween : (m n : ℕ) → List Step → Bool
+endsBetween m n ss = any (λ (s : Step). isEnded (s .query .outcome)) (drop (m - 1) (take (n - 1) ss))
 
 -- The queries from a round on, one after another, up to the one that finishes the search.
 pub data Run (p : Problem) : Round → List Step → Type 0 where

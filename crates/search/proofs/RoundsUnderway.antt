@@ -4,7 +4,6 @@ use mathlib.Core.Bool.{false}
 use mathlib.Core.List.{List, [], _∷_, _++_, append-assoc, concat-ne-nil, List·Memᴰ, List·Memᴰ·head, Memᴰ·append-right}
 use mathlib.Core.Option.{none, some}
 use Prim.Native.Nat.{ℕ, _+_, _-_, _*_, _^_, _≤_, _<_}
-use native.Mathlib.Nat.{le-refl}
 use native.Mathlib.Omega.{arith}
 use lib.ListN.{length, length-append}
 use borrow.Author.Tests.{le-ltb}
@@ -130,12 +129,8 @@ module _ (p : Problem) (ok : Valid p) (a : ℕ) where
         let whole = total-append (here .earlier) (ask p r ∷ here .later) in
         let exceeds : a < total (trace p) = rw (here .split) (omega (arith, here .exceeds)) in
         let cut = laws.spent-cut p a exceeds in
-        let forward = laws.cut-forward (trace p) (laws.low-never-falls p ok) a a in
-        let to = forward (search p a .queries) (q + 1) (search p a .last) (ask p r) (le-refl a) (cut .1) here in
-        let back = forward (q + 1) (search p a .queries) (ask p r) (search p a .last) (le-refl a) here (cut .1) in
-        let low : search p a .last .round .low ≡ r .low = omega arith in
-        let queries : search p a .queries ≡ q + 1 = omega arith in
-        rw (laws.spent-exactly p a .1 exceeds, low, cut .0, queries)
+        let once = laws.cut-once (trace p) a (search p a .queries) (q + 1) (search p a .last) (ask p r) (cut .1) here in
+        rw (laws.spent-exactly p a .1 exceeds, once .0, cut .0, once .1)
 
     -- the allowance lasts for the query, and it is the last
     closed : next p (ask p r) ≡ none → costOf p r ≤ a - t
