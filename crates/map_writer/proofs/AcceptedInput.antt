@@ -25,7 +25,7 @@ use Rattle.answer.specs.Numbers.{answerOf}
 use Rattle.answer.specs.declared.Answer.{Answer}
 use Rattle.map_writer.specs.Canonical.{write}
 use Rattle.map_writer.specs.Call.{writtenWith, writeIf, writeMap, Wrote}
-use Rattle.map_writer.specs.Puts.{Put, mapText, Puttable}
+use Rattle.map_records.specs.Puts.{Put, mapText, Puttable}
 use Rattle.map_writer.specs.Steps.{HasRoom, InOrder}
 use Rattle.map_writer.proofs.Acceptance.{input-passes, enough-words, enough-bytes}
 use Rattle.map_writer.proofs.CanonicalPasses.{few-goals}

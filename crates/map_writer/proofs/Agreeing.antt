@@ -21,7 +21,7 @@ use Rattle.sort.proofs.SortedNumbers.{same-sorts}
 use Rattle.map_writer.specs.Order.{noLater}
 use Rattle.map_writer.specs.Canonical.{estimatesByPlace, canonical}
 use Rattle.map_writer.specs.Agree.{sameCharge, sameLane, copies, Agree}
-use Rattle.map_writer.specs.Keys.{keyOf, laneIn}
+use Rattle.lane_rows.specs.Keys.{keyOf, laneIn}
 use Rattle.map_writer.proofs.KeyLaws.{keys-back, sorted-keys}
 use Rattle.map_writer.proofs.EstimateLaws.{EstimatesInside, canonical-lookup}
 

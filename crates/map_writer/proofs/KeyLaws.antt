@@ -17,7 +17,7 @@ use Rattle.sort.specs.Keys.{wordEnd}
 use Rattle.sort.specs.Sorting.{sortBy}
 use Rattle.sort.proofs.SortLaws.{sort-map}
 use Rattle.map_writer.specs.Order.{kindFields, orderFields, noGreater, noLater}
-use Rattle.map_writer.specs.Keys.{endsWord, measureBits, chargeWord, keyOf, chargeIn, laneIn}
+use Rattle.lane_rows.specs.Keys.{endsWord, measureBits, chargeWord, keyOf, chargeIn, laneIn}
 
 -- ---- the two words of a key
 measure-below : (c : Charge) → mismeasured c ≡ false → measureBits c < 65536

@@ -9,12 +9,6 @@ pub mod CanonicalPasses
 pub mod WrittenAccepted
 pub mod Shorter
 pub mod SameRoute
-pub mod PutRecords
-pub mod PutLoops
-pub mod KeyParts
-pub mod Placing
-pub mod PlacingWalk
-pub mod SortingRows
 pub mod Orders
 pub mod MapText
 pub mod Acceptance

@@ -13,7 +13,7 @@ use Rattle.model.specs.Lists.{filter, below}
 use Rattle.model.specs.Limits.{maxPlaces, maxArcs, maxGoals}
 use Rattle.model.specs.Items.{Charge, flat, measured, Lane, Estimate, chargeBytes}
 use Rattle.model.specs.Stated.{Stated, statedIn, lookup}
-use Rattle.model.specs.Jobs.{putEstimate}
+use Rattle.model.specs.Jobs.{putEstimate, putLane}
 use Rattle.model.proofs.Lists.{filter-append, filter-length, below-length}
 use Rattle.map.specs.declared.Job.{Job}
 use Rattle.map.specs.Jobs.{States}
@@ -21,9 +21,9 @@ use Rattle.layout.specs.Regions.{estimatesAt, goalsAt, arcsAt}
 use Rattle.load.specs.Load.{Fit}
 use Rattle.sort.proofs.SortLaws.{sort-member, sort-length}
 use Rattle.map_writer.specs.Order.{noLater}
-use Rattle.map_writer.specs.Canonical.{estimatesByPlace, canonical, putLane, putStated, write}
-use Rattle.map_writer.specs.Keys.{laneIn, keysBetween}
-use Rattle.map_writer.specs.Puts.{putLanes, putNonzero, putEstimates, putJobOf, mapText}
+use Rattle.map_writer.specs.Canonical.{estimatesByPlace, canonical, putStated, write}
+use Rattle.lane_rows.specs.Keys.{laneIn, keysBetween}
+use Rattle.map_records.specs.Puts.{putLanes, putNonzero, putEstimates, putJobOf, mapText}
 use Rattle.map_writer.specs.Steps.{InOrder}
 use Rattle.map_writer.proofs.KeyLaws.{keys-back}
 use Rattle.map_writer.proofs.Shorter.{laneBytes, statedBytes, written-length}

@@ -23,8 +23,8 @@ use Rattle.sort.proofs.Keys.{keys-length}
 use Rattle.sort.proofs.SortLaws.{sort-length}
 use Rattle.map_writer.specs.Order.{noLater}
 use Rattle.map_writer.specs.Canonical.{canonical}
-use Rattle.map_writer.specs.Keys.{keyOf, keysBetween, rowKeys}
-use Rattle.map_writer.specs.Rows.{Placeable, AllPlaced, HasRows, sortedBelow, RowsSorted}
+use Rattle.lane_rows.specs.Keys.{keyOf, keysBetween, rowKeys}
+use Rattle.lane_rows.specs.Rows.{Placeable, AllPlaced, HasRows, sortedBelow, RowsSorted}
 use Rattle.map_writer.specs.Steps.{InOrder}
 use Rattle.map_writer.proofs.RowLaws.{sortedRows, rows-sorted}
 

@@ -18,7 +18,7 @@ use Rattle.sort.specs.Sorting.{sortBy, oneIf}
 use Rattle.sort.proofs.SortLaws.{filter-cons}
 use Rattle.sort.proofs.SortedNumbers.{same-sorts, sort-append}
 use Rattle.map_writer.specs.Order.{noLater}
-use Rattle.map_writer.specs.Keys.{keyOf}
+use Rattle.lane_rows.specs.Keys.{keyOf}
 use Rattle.map_writer.proofs.KeyLaws.{key-parts, sorted-keys}
 
 -- the keys of the lanes that leave v

@@ -6,11 +6,11 @@ use Prim.Native.Nat.{ℕ, _-_}
 use lib.Dec.{eqb}
 use lib.ListN.{length, replicate}
 use Rattle.model.specs.Lists.{below}
-use Rattle.model.specs.Jobs.{putHead, putArc, putMeasured, putEstimate, putJob}
+use Rattle.model.specs.Jobs.{putHead, putArc, putMeasured, putEstimate, putJob, putCharged, putLane}
 use Rattle.model.proofs.Compute.{compute}
 use Rattle.sort.specs.Sorting.{insert, sortBy}
 use Rattle.map_writer.specs.Order.{kindFields, orderFields, noGreater, noLater}
-use Rattle.map_writer.specs.Canonical.{estimatesByPlace, canonical, putCharged, putLane, putStated, write}
+use Rattle.map_writer.specs.Canonical.{estimatesByPlace, canonical, putStated, write}
 use Rattle.map_writer.specs.Call.{shortOutput, outputRows, writeRows, writeRefusal, writtenWith, writeIf, writeMap}
 
 -- lanes that differ from the one before in one field only: class, length, kind, cost, to, from; and a repeat

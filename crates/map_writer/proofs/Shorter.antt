@@ -17,13 +17,13 @@ use Rattle.model.specs.Items.{itemOf, bodyLength, otherThan, misfits, items, si
 use Rattle.model.specs.Stated.{Stated, noJob, statedBy, stated, statedIn, lookup}
 use Rattle.model.specs.Refusals.{unknownKind, wrongLength, beginsWithHead, wrongHead, endsWithJob, wrongJob}
 use Rattle.model.specs.Refusals.{formRows, sizeRows, mapRows, jobRows, inputRows, holdsAt, inputRefusal}
-use Rattle.model.specs.Jobs.{putHead, putArc, putMeasured, putEstimate, putJob}
-use Rattle.model.proofs.Bytes.{put16s-length}
+use Rattle.model.specs.Jobs.{putHead, putArc, putMeasured, putEstimate, putJob, putCharged, putLane}
 use Rattle.model.proofs.Lists.{neither, filter-member, different-among}
 use Rattle.model.proofs.Rows.{row-fails, input-numbered}
 use Rattle.sort.proofs.SortLaws.{sort-total}
+use Rattle.map_records.proofs.PutRecords.{put-job-length}
 use Rattle.map_writer.specs.Order.{noLater}
-use Rattle.map_writer.specs.Canonical.{estimatesByPlace, canonical, putCharged, putLane, putStated, write}
+use Rattle.map_writer.specs.Canonical.{estimatesByPlace, canonical, putStated, write}
 use Rattle.map_writer.proofs.EstimateLaws.{canonical-estimate, canonical-single}
 
 -- ---- Records
@@ -155,10 +155,6 @@ put-lane-length l = go (l .charge)
 pub put-estimate-length : (v h : ℕ) → length (putEstimate v h) ≡ 4 + estimateBytes
 unfolding putEstimate putRecord put16 put32
 put-estimate-length v h = refl
-
-pub put-job-length : (start allowance : ℕ) (goals : List ℕ) → length (putJob start allowance goals) ≡ 4 + jobBytes + 2 * length goals
-unfolding putJob putRecord put16 put32
-put-job-length start allowance goals = omega (arith, put16s-length goals)
 
 pub put-lanes-length : (ls : List Lane) → length (flatMap putLane ls) ≡ laneBytes ls
 unfolding flatMap laneBytes

@@ -11,10 +11,10 @@ use Rattle.model.specs.Framing.{Record, frame, putRecord}
 use Rattle.model.specs.Items.{headKind, arcKind, estimateKind, jobKind, measuredKind, jobBytes}
 use Rattle.model.specs.Items.{Size, Charge, flat, measured, Lane, Estimate, Job}
 use Rattle.model.specs.Stated.{Stated, fixedFactors}
-use Rattle.model.specs.Jobs.{putHead, putArc, putMeasured, putEstimate, putJob}
+use Rattle.model.specs.Jobs.{putHead, putArc, putMeasured, putEstimate, putJob, putCharged, putLane}
 use Rattle.model.proofs.Bytes.{append-bytes, put16-is-bytes, put32-is-bytes, put16s-is-bytes, put16s-length}
 use Rattle.model.proofs.Records.{putRecords, Fits, AllFit, putRecords-is-bytes, frame-records}
-use Rattle.map_writer.specs.Canonical.{putCharged, putLane, putStated}
+use Rattle.map_writer.specs.Canonical.{putStated}
 
 -- ---- what fits in the bytes of its fields
 

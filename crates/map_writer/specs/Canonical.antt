@@ -5,9 +5,9 @@ use mathlib.Core.List.{List, _++_, map, flatMap}
 use Prim.Native.Nat.{ℕ}
 use lib.Dec.{eqb}
 use Rattle.model.specs.Lists.{filter, below}
-use Rattle.model.specs.Items.{Charge, flat, measured, Lane, Estimate}
+use Rattle.model.specs.Items.{Estimate}
 use Rattle.model.specs.Stated.{Stated, lookup}
-use Rattle.model.specs.Jobs.{putHead, putArc, putMeasured, putEstimate, putJob}
+use Rattle.model.specs.Jobs.{putHead, putEstimate, putJob, putLane}
 use Rattle.sort.specs.Sorting.{sortBy}
 use Rattle.map_writer.specs.Order.{noLater}
 
@@ -26,14 +26,6 @@ canonical s =
       growth = s .growth;
       job = s .job;
     }
-
--- each lane as the record it was
-unfoldable pub putCharged : (from to : ℕ) → Charge → List ℕ
-putCharged u v (flat cost) = putArc u v cost
-putCharged u v (measured length class) = putMeasured u v length class
-
-unfoldable pub putLane : Lane → List ℕ
-putLane l = putCharged (l .from) (l .to) (l .charge)
 
 unfoldable pub putStated : Stated → List ℕ
 putStated s =

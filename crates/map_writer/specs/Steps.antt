@@ -11,7 +11,7 @@ use Rattle.map.specs.Sizes.{sizeOf, wordsOf}
 use Rattle.map.specs.Jobs.{States}
 use Rattle.layout.specs.Regions.{estimateWord}
 use Rattle.map_writer.specs.Canonical.{canonical}
-use Rattle.map_writer.specs.Keys.{keyOf, keysBetween}
+use Rattle.lane_rows.specs.Keys.{keyOf, keysBetween}
 use Rattle.map_writer.specs.Call.{outputRows, Writable}
 
 -- no condition of the input holds, nor one of what is lent, and the job is what it states

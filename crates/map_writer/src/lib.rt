@@ -1,7 +1,4 @@
 // The map writer: from an accepted input the same map and job in one canonical form.
-mod put;
-mod rows;
-
 use answer::Answer;
 use judge::Judgement;
 use map::Job;
@@ -27,8 +24,8 @@ fn order(input: &[u8], job: Job, work: &mut [u32])
     let places = site.places;
     load::prepare(input, job, work);
     let factors = Map::fixed_factors();
-    rows::place_records(input, places, &factors, work);
-    rows::sort_rows(work, places);
+    lane_rows::place_records(input, places, &factors, work);
+    lane_rows::sort_rows(work, places);
 }
 
 fn wrote(bytes: usize) -> Answer
@@ -53,7 +50,7 @@ fn accepted(input: &[u8], job: Job, work: &mut [u32], output: &mut [u8]) -> Answ
 {
     let site = job.site;
     order(input, job, work);
-    let bytes = put::put_map(output, input, job, work);
+    let bytes = map_records::put_map(output, input, job, work);
     let need = site.words();
     area::fill(&mut work[0..need], 0);
     wrote(bytes)

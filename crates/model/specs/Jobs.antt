@@ -7,7 +7,7 @@ use lib.ListN.{length}
 use Rattle.model.specs.Bytes.{put16, put32, put16s}
 use Rattle.model.specs.Framing.{putRecord}
 use Rattle.model.specs.Limits.{maxPlaces, maxCost}
-use Rattle.model.specs.Items.{headKind, arcKind, estimateKind, jobKind, measuredKind}
+use Rattle.model.specs.Items.{headKind, arcKind, estimateKind, jobKind, measuredKind, Charge, flat, measured, Lane}
 
 unfoldable pub putHead : ℕ → ℕ → List ℕ
 putHead n m = putRecord headKind (put16 n ++ put16 m)
@@ -17,6 +17,14 @@ putArc u v c = putRecord arcKind (put16 u ++ put16 v ++ put16 c)
 
 unfoldable pub putMeasured : (from to length class : ℕ) → List ℕ
 putMeasured u v length class = putRecord measuredKind (put16 u ++ put16 v ++ put16 length ++ put16 class)
+
+-- a lane as the record it was
+unfoldable pub putCharged : (from to : ℕ) → Charge → List ℕ
+putCharged u v (flat cost) = putArc u v cost
+putCharged u v (measured length class) = putMeasured u v length class
+
+unfoldable pub putLane : Lane → List ℕ
+putLane l = putCharged (l .from) (l .to) (l .charge)
 
 unfoldable pub putEstimate : ℕ → ℕ → List ℕ
 putEstimate v h = putRecord estimateKind (put16 v ++ put32 h)

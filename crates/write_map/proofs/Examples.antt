@@ -3,11 +3,11 @@ use mathlib.Core.Path.{_≡_, refl}
 use mathlib.Core.List.{[], _∷_, _++_, flatMap}
 use lib.ListN.{replicate}
 use Rattle.model.specs.Lists.{below}
-use Rattle.model.specs.Jobs.{putHead, putArc, putEstimate, putJob}
+use Rattle.model.specs.Jobs.{putHead, putArc, putEstimate, putJob, putCharged, putLane}
 use Rattle.model.proofs.Compute.{compute}
 use Rattle.sort.specs.Sorting.{sortBy, insert}
 use Rattle.map_writer.specs.Order.{kindFields, orderFields, noGreater, noLater}
-use Rattle.map_writer.specs.Canonical.{estimatesByPlace, canonical, putCharged, putLane, putStated, write}
+use Rattle.map_writer.specs.Canonical.{estimatesByPlace, canonical, putStated, write}
 use Rattle.map_writer.specs.Call.{shortOutput, outputRows, writeRows, writeRefusal, writtenWith, writeIf, writeMap}
 use Rattle.text.specs.Text.{decimalUpTo, decimal, parted, line, tooLong}
 use Rattle.write_map.specs.Printed.{streams, streamsOf, answered, printed}

@@ -1,0 +1,3 @@
+-- Laws of records put one after another.
+pub mod PutRecords
+pub mod PutLoops

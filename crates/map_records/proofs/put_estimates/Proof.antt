@@ -1,0 +1,64 @@
+-- The loop's invariant: the estimates from place v on are left to be put. The measure is the number of words that are left. Assumes nothing.
+use Prim.Native.Nat.{_-_, _≤_}
+use native.Mathlib.Omega.{arith}
+use lib.ListN.{length, drop}
+use borrow.Author.Needs.{needs}
+use Rattle.map_records.specs.Puts.{putEstimates}
+use Rattle.map_records.proofs.PutLoops.{Putting, all-left, next-fits, next-put, none-left, estimates-from, estimates-done}
+use Rattle.map_records.proofs.put_estimates.Statement.{statement}
+use Rattle.map_records.proofs.put_estimates.Tie as tie
+
+abbrev Inv-loop : tie.InvT-loop
+Inv-loop out₀ start words at₀ v₀ out at v = (v ≤ length words) × Putting (putEstimates 0 words) (putEstimates v (drop v words)) start out₀ out at
+
+abbrev μ-loop : tie.MeasureT-loop
+μ-loop out₀ start words at₀ v₀ out at v = length words - v
+
+loop-holds : tie.Need-loop-holds Inv-loop μ-loop
+loop-holds c = (omega arith, all-left (c .before .before .pre .1))
+
+mul-put-nonzero : tie.Need-mul-put-nonzero Inv-loop μ-loop
+mul-put-nonzero c = search needs
+
+shared-slice-read-put-nonzero : tie.Need-shared-slice-read-put-nonzero Inv-loop μ-loop
+shared-slice-read-put-nonzero c = search needs
+
+put-nonzero-requires : tie.Need-put-nonzero-requires Inv-loop μ-loop
+put-nonzero-requires c κs =
+    let l = c .before .before .before .loop in
+    (omega (arith, c .before .before .before .before .before .before .pre .0), next-fits (estimates-from _ (l .v) (omega arith)) (l .inv .1))
+
+add-v : tie.Need-add-v Inv-loop μ-loop
+add-v c = search needs
+
+loop-less : tie.Need-loop-less Inv-loop μ-loop
+loop-less c = search needs
+
+loop-again : tie.Need-loop-again Inv-loop μ-loop
+loop-again c =
+    let l = c .before .before .before .before .before .before .loop in
+    (omega arith, next-put (estimates-from _ (l .v) (omega arith)) (l .inv .1) (c .before .before .put-nonzero .ensures))
+
+same-length : tie.Need-same-length Inv-loop μ-loop
+same-length c = search needs
+
+returns : tie.Need-returns Inv-loop μ-loop
+returns c =
+    let l = c .before .loop in
+    none-left (estimates-done _ (l .v) (omega arith)) (l .inv .1)
+
+pub put-estimates-spec : {M : Type 1} → statement M
+put-estimates-spec =
+    tie.close
+    (tie.spec
+    Inv-loop
+    μ-loop
+    loop-holds
+    mul-put-nonzero
+    shared-slice-read-put-nonzero
+    put-nonzero-requires
+    add-v
+    loop-less
+    loop-again
+    same-length
+    returns)

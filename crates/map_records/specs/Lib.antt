@@ -1,0 +1,2 @@
+-- Records put one after another, and the bytes of the map that the words hold.
+pub mod Puts

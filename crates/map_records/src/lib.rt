@@ -1,0 +1,175 @@
+// The records of a map, put into the output area one after another.
+use map::Job;
+use map::record;
+ghost use mathlib.Core.Path.{_≡_};
+ghost use mathlib.Core.List.{_++_};
+ghost use Prim.Native.Nat.{_+_, _≤_};
+ghost use lib.ListN.{length};
+ghost use lib.Seq.{sets};
+ghost use Rattle.model.specs.Bytes.{put16 as bytes16};
+ghost use Rattle.model.specs.Jobs.{putHead, putArc, putMeasured, putEstimate, putLane};
+ghost use Rattle.model.specs.Limits.{maxPlaces, maxArcs};
+ghost use Rattle.sort.specs.Keys.{keyFrom};
+ghost use Rattle.lane_rows.specs.Keys.{laneIn};
+ghost use Rattle.map_records.specs.Puts.{Put, Fits, putLanes, putNonzero, putEstimates, putJobOf, mapText, GoalsLast, Puttable};
+
+// How long a record is, and what its first two fields say.
+const HEADER: usize = record::HEADER;
+
+const HEAD: usize = HEADER + record::HEAD_BYTES;
+
+const ARC: usize = HEADER + record::ARC_BYTES;
+
+const MEASURED: usize = HEADER + record::MEASURED_BYTES;
+
+const ESTIMATE: usize = HEADER + record::ESTIMATE_BYTES;
+
+const JOB: usize = HEADER + record::GOALS;
+
+// The length of a record's body and its kind.
+fn put_header(out: &mut [u8], at: usize, bytes: u32, kind: u16)
+    requires { ⌜ at + 4 ≤ length (now out) ⌝ }
+    ensures { λ _. ⌜ now (out .exit) ≡ sets (now (out .entry)) at (bytes16 bytes ++ bytes16 kind) ⌝ }
+{
+    area::put16(out, at, bytes);
+    area::put16(out, at + 2, area::wide16(kind));
+}
+
+fn put_head(out: &mut [u8], places: usize, arcs: usize)
+    requires { ⌜ (places ≤ maxPlaces) × (arcs ≤ maxArcs) × (8 ≤ length (now out)) ⌝ }
+    ensures { λ _. ⌜ now (out .exit) ≡ sets (now (out .entry)) 0 (putHead places arcs) ⌝ }
+{
+    put_header(out, 0, record::HEAD_BYTES as u32, record::HEAD_KIND);
+    area::put16(out, 4, places as u32);
+    area::put16(out, 6, arcs as u32);
+}
+
+fn put_arc(out: &mut [u8], at: usize, from: u32, to: u32, cost: u32)
+    requires { ⌜ at + 10 ≤ length (now out) ⌝ }
+    ensures { λ _. ⌜ now (out .exit) ≡ sets (now (out .entry)) at (putArc from to cost) ⌝ }
+{
+    put_header(out, at, record::ARC_BYTES as u32, record::ARC_KIND);
+    area::put16(out, at + 4, from);
+    area::put16(out, at + 6, to);
+    area::put16(out, at + 8, cost);
+}
+
+fn put_measured(out: &mut [u8], at: usize, from: u32, to: u32, feet: u32, class: u32)
+    requires { ⌜ at + 12 ≤ length (now out) ⌝ }
+    ensures { λ _. ⌜ now (out .exit) ≡ sets (now (out .entry)) at (putMeasured from to feet class) ⌝ }
+{
+    put_header(
+        out,
+        at,
+        record::MEASURED_BYTES as u32,
+        record::MEASURED_KIND,
+    );
+    area::put16(out, at + 4, from);
+    area::put16(out, at + 6, to);
+    area::put16(out, at + 8, feet);
+    area::put16(out, at + 10, class);
+}
+
+// The lane of a key, as the record it was.
+fn put_lane(out: &mut [u8], at: usize, high: u32, low: u32) -> usize
+    requires { ⌜ Fits (putLane (laneIn (keyFrom high low))) at (now out) ⌝ }
+    ensures { λ r. ⌜ Put (putLane (laneIn (keyFrom high low))) at (now (out .entry)) (now (out .exit)) r ⌝ }
+{
+    let from = high / lane_rows::FROM;
+    let to = high % lane_rows::FROM;
+    if low / lane_rows::MEASURED % 2 == 0 {
+        put_arc(out, at, from, to, low / lane_rows::COST);
+        return at + ARC;
+    }
+    put_measured(
+        out,
+        at,
+        from,
+        to,
+        low / lane_rows::LENGTH % lane_rows::LENGTHS,
+        low % lane_rows::LENGTH,
+    );
+    at + MEASURED
+}
+
+// The lanes of all keys in the words.
+fn put_lanes(out: &mut [u8], start: usize, words: &[u32]) -> usize
+    requires { ⌜ Fits (putLanes (now words)) start (now out) ⌝ }
+    ensures { λ r. ⌜ Put (putLanes (now (words .entry))) start (now (out .entry)) (now (out .exit)) r ⌝ }
+{
+    let mut at = start;
+    let mut k = 0;
+    while k < words.len() / 2 {
+        let i = k + k;
+        at = put_lane(out, at, words[i], words[i + 1]);
+        k += 1;
+    }
+    at
+}
+
+// The estimate of a place, where it is not 0.
+fn put_nonzero(out: &mut [u8], at: usize, place: usize, value: u32) -> usize
+    requires { ⌜ (place ≤ maxPlaces) × Fits (putNonzero place value) at (now out) ⌝ }
+    ensures { λ r. ⌜ Put (putNonzero place value) at (now (out .entry)) (now (out .exit)) r ⌝ }
+{
+    if value == 0 {
+        return at;
+    }
+    put_header(
+        out,
+        at,
+        record::ESTIMATE_BYTES as u32,
+        record::ESTIMATE_KIND,
+    );
+    area::put16(out, at + 4, place as u32);
+    area::put32(out, at + 6, value);
+    at + ESTIMATE
+}
+
+// The estimates of all places, which are the words in order.
+fn put_estimates(out: &mut [u8], start: usize, words: &[u32]) -> usize
+    requires { ⌜ (length (now words) ≤ maxPlaces) × Fits (putEstimates 0 (now words)) start (now out) ⌝ }
+    ensures { λ r. ⌜ Put (putEstimates 0 (now (words .entry))) start (now (out .entry)) (now (out .exit)) r ⌝ }
+{
+    let mut at = start;
+    let mut v = 0;
+    while v < words.len() {
+        at = put_nonzero(out, at, v, words[v]);
+        v += 1;
+    }
+    at
+}
+
+// The job; its goals are the rest of the input.
+fn put_job(out: &mut [u8], at: usize, input: &[u8], job: Job) -> usize
+    requires { ⌜ GoalsLast (now input) job × Fits (putJobOf (now input) job) at (now out) ⌝ }
+    ensures { λ r. ⌜ Put (putJobOf (now (input .entry)) job) at (now (out .entry)) (now (out .exit)) r ⌝ }
+{
+    let goals = job.goals;
+    let site = job.site;
+    let body = record::GOALS + 2 * goals;
+    put_header(out, at, body as u32, record::JOB_KIND);
+    area::put16(out, at + 4, site.start);
+    area::put32(out, at + 6, job.allowance);
+    area::put16(out, at + 10, goals as u32);
+    let goals_at = job.goals_at;
+    area::put_bytes(out, at + JOB, &input[goals_at..]);
+    at + HEADER + body
+}
+
+// The map that the words hold: lanes in the order of their keys, estimates by place; then the job.
+pub fn put_map(out: &mut [u8], input: &[u8], job: Job, work: &[u32]) -> usize
+    requires { ⌜ Puttable (now input) job (now work) (now out) ⌝ }
+    ensures { λ r. ⌜ Put (mapText (now (input .entry)) job (now (work .entry))) 0 (now (out .entry)) (now (out .exit)) r ⌝ }
+{
+    let site = job.site;
+    let places = site.places;
+    put_head(out, places, site.arcs);
+    let start = layout::arcs_at(places);
+    let end = start + 2 * site.arcs;
+    let lanes_end = put_lanes(out, HEAD, &work[start..end]);
+    let first = layout::estimates_at(places);
+    let last = layout::goals_at(places);
+    let estimates_end = put_estimates(out, lanes_end, &work[first..last]);
+    put_job(out, estimates_end, input, job)
+}
