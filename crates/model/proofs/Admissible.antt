@@ -1,14 +1,12 @@
 -- Where no estimate overstates: limits from the cheapest cost on have a goal within, low stays at or below it, and the route found is the
 -- problem's own first cheapest one. Where any estimate may: none is given exactly where no goal can be reached. Assumes nothing.
 use mathlib.Core.Path.{_≡_, refl, ap, sym, subst, _∙_}
-use mathlib.Core.Bool.{Bool, true, false}
 use mathlib.Core.List.{List, List·Memᴰ}
 use mathlib.Core.Option.{Option, none, some}
 use Prim.Native.Nat.{ℕ, _+_, _-_, _*_, _^_, _≤_, _<_}
 use native.Mathlib.Nat.{le-refl, le-trans}
 use native.Mathlib.Decide.{decLe}
 use native.Mathlib.Omega.{arith}
-use lib.Dec.{eqb}
 use lib.ListN.{length}
 use Rattle.model.specs.Numbers.{binaryDigits}
 use Rattle.model.specs.Problem.{Problem, Arc, IsArc, IsGoal, Valid}
@@ -16,7 +14,7 @@ use Rattle.model.specs.Paths.{Walk, stay, on, places, PathTo, GoalReacha
 use Rattle.model.specs.Paths.{Within, PathWithin, RouteWithin, Cheapest, FirstCheapest, Admissible}
 use Rattle.model.specs.Costs.{costAt, table}
 use Rattle.model.specs.Query.{Key, within, firstGoal, nextLimit, Outcome, ended, over, found, nothing, query}
-use Rattle.model.specs.Rounds.{Round, Step, firstRound, limitOf, closeIf, settle, after, ask, next, trace, total}
+use Rattle.model.specs.Rounds.{Round, Step, firstRound, limitOf, settle, after, ask, next, trace, total}
 use Rattle.model.specs.Routes.{firstRoute}
 use Rattle.model.specs.Terms.{AtMost, IsWithin, RoundKept, Closes}
 use Rattle.model.proofs.Lists.{none-some}
@@ -24,7 +22,7 @@ use Rattle.model.proofs.LeastCosts.{start-below, end-below, entry-path,
 use Rattle.model.proofs.Keys.{IsFirstGoal, first-goal-none, first-goal-some, within-length, within-some, within-monotone}
 use Rattle.model.proofs.Queries.{next-limit-some, ended-next, nothing-next, found-goal, over-exceeds}
 use Rattle.model.proofs.Crossing.{leaves, closed}
-use Rattle.model.proofs.Rounds.{along, asked, kept-first, kept-next, rounds-kept, low-limit}
+use Rattle.model.proofs.Rounds.{settle-low, along, asked, kept-first, kept-next, rounds-kept, low-limit}
 use Rattle.model.proofs.Total.{digits-below, total-bounded, closes-over}
 use Rattle.model.proofs.Routes.{first-same}
 use Rattle.model.proofs.LeastPaths.{route-within}
@@ -35,15 +33,6 @@ arc-then {p} a i stay = subst (Walk p (a .from) (a .to)) (omega arith) (on a i s
 arc-then a i (on {d = d} b j w) =
     let same : a .cost + d + b .cost ≡ a .cost + (d + b .cost) = omega arith in
     rw (← same) (on b j (arc-then a i w))
-
-settle-low : (q low : ℕ) (high : Option ℕ) (b : ℕ) → settle q low high b .low ≡ low
-unfolding settle closeIf
-settle-low q low none b = refl
-settle-low q low (some h) b = go (eqb low h)
-  where
-    go : (t : Bool) → closeIf t q low h b .low ≡ low
-    go true = refl
-    go false = refl
 
 module _ (p : Problem) (ok : Valid p) where
   -- the outcome of a query of the trace is that of its limit and budget

@@ -2,30 +2,20 @@
 use mathlib.Core.Path.{_≡_, refl, ap}
 use mathlib.Core.Bool.{Bool, true, false, _||_, false≢true}
 use mathlib.Core.List.{List, [], _∷_, _++_, List·Memᴰ, List·Memᴰ·head, Memᴰ·append-right, head-eq-of-cons-eq, tail-eq-of-cons-eq}
-use mathlib.Core.Option.{Option, none, some, Option·some-inj}
+use mathlib.Core.Option.{some, Option·some-inj}
 use Prim.Native.Nat.{ℕ, _+_, _-_, _≤_, _<_}
 use native.Mathlib.Omega.{arith}
-use lib.Dec.{eqb}
 use lib.ListN.{length, take, drop, length-append}
 use lib.Seq.{take-append-seam, drop-append-seam}
 use Rattle.model.specs.Lists.{any}
 use Rattle.model.specs.Problem.{Problem, Valid}
 use Rattle.model.specs.Query.{Outcome, ended, over, found, nothing, query}
-use Rattle.model.specs.Rounds.{Round, Step, limitOf, closeIf, settle, after, ask, next, trace}
+use Rattle.model.specs.Rounds.{Round, Step, limitOf, after, ask, next, trace}
 use Rattle.model.specs.Terms.{RoundKept, CutAt, Run, last, more, isEnded, endsBetween}
 use Rattle.model.proofs.Lists.{none-some}
-use Rattle.model.proofs.Rounds.{kept-next, low-limit, ended-above, rounds-kept}
+use Rattle.model.proofs.Rounds.{settle-low, kept-next, low-limit, ended-above, rounds-kept}
 use Rattle.model.proofs.Traces.{trace-run}
 use Rattle.model.proofs.Allowance.{cut-forward}
-
-settle-low : (q low : ℕ) (high : Option ℕ) (b : ℕ) → settle q low high b .low ≡ low
-unfolding settle closeIf
-settle-low q low none b = refl
-settle-low q low (some h) b = go (eqb low h)
-  where
-    go : (t : Bool) → closeIf t q low h b .low ≡ low
-    go true = refl
-    go false = refl
 
 -- low in a round and in a later one, and whether a query between them was ended
 pub record Rises (low later : ℕ) (ended : Bool) : Type 0 where

@@ -22,6 +22,16 @@ use Rattle.model.proofs.Keys.{within-length}
 use Rattle.model.proofs.Queries.{ended-next, over-exceeds}
 use Rattle.model.proofs.Crossing.{next-above-limit, same-below-next, next-at-most}
 
+-- whether the round closes or not, low is what it is set to
+pub settle-low : (q low : ℕ) (high : Option ℕ) (b : ℕ) → settle q low high b .low ≡ low
+unfolding settle closeIf
+settle-low q low none b = refl
+settle-low q low (some h) b = go (eqb low h)
+  where
+    go : (t : Bool) → closeIf t q low h b .low ≡ low
+    go true = refl
+    go false = refl
+
 -- the step is what is asked in its round, and the round has the property
 abbrev AskedIn : (p : Problem) (P : Round → Type 0) → Step → Type 0
 AskedIn p P s = (s ≡ ask p (s .round)) × P (s .round)
