@@ -2,8 +2,8 @@
 use mathlib.Core.Path.{_≡_, refl, ap, ap₂, sym, _∙_}
 use mathlib.Core.Logic.{_↔_}
 use mathlib.Core.Bool.{Bool, true, false, cond}
-use mathlib.Core.List.{List, [], _∷_, _++_, getLastD}
-use mathlib.Core.List.{head-eq-of-cons-eq, tail-eq-of-cons-eq}
+use mathlib.Core.List.{List, [], _∷_, _++_, getLastD, head-eq-of-cons-eq, tail-eq-of-cons-eq}
+use mathlib.Core.List.{List·Memᴰ, List·Memᴰ·head, Memᴰ·append-right}
 use Prim.Native.Nat.{ℕ, _+_, _-_, _≤_, _<_}
 use native.Mathlib.Nat.{le-refl}
 use native.Mathlib.Omega.{arith}
@@ -51,6 +51,12 @@ begun-cut a (s ∷ ss) d h = go (ltb a (s .query .cost)) refl (begun-cut (a - s 
           exceeds = omega arith;
           counted = omega arith;
         }
+
+-- a query that is cut is one of the queries
+pub cut-inside : {ss : List Step} {a n : ℕ} {s : Step} → CutAt a ss s n → List·Memᴰ s ss × (n ≤ length ss)
+cut-inside {s = s} x =
+    let longer = length-append (x .earlier) (s ∷ x .later) in
+    rw (x .split) (Memᴰ·append-right (x .earlier) (List·Memᴰ·head refl), omega (arith, x .counted))
 
 -- an allowance of at least the total cuts nothing
 begun-all : (a : ℕ) (ss : List Step) → total ss ≤ a → begun a ss ≡ ss

@@ -1,7 +1,7 @@
 -- What a longer allowance does to the floor: it rises exactly where a query ends that the shorter one was cut before. Assumes nothing.
 use mathlib.Core.Path.{_≡_, refl, ap}
 use mathlib.Core.Bool.{Bool, true, false, _||_, false≢true}
-use mathlib.Core.List.{List, [], _∷_, _++_, List·Memᴰ, List·Memᴰ·head, Memᴰ·append-right, head-eq-of-cons-eq, tail-eq-of-cons-eq}
+use mathlib.Core.List.{List, [], _∷_, _++_, head-eq-of-cons-eq, tail-eq-of-cons-eq}
 use mathlib.Core.Option.{some, Option·some-inj}
 use Prim.Native.Nat.{ℕ, _+_, _-_, _≤_, _<_}
 use native.Mathlib.Omega.{arith}
@@ -15,7 +15,7 @@ use Rattle.model.specs.Terms.{RoundKept, CutAt, Run, last, more, isEnded
 use Rattle.model.proofs.Lists.{none-some}
 use Rattle.model.proofs.Rounds.{settle-low, kept-next, low-limit, ended-above, rounds-kept}
 use Rattle.model.proofs.Traces.{trace-run}
-use Rattle.model.proofs.Allowance.{cut-forward}
+use Rattle.model.proofs.Allowance.{cut-inside, cut-forward}
 
 -- low in a round and in a later one, and whether a query between them was ended
 pub record Rises (low later : ℕ) (ended : Bool) : Type 0 where
@@ -95,9 +95,8 @@ module _ (p : Problem) (ok : Valid p) where
   unfolding endsBetween
   cut-rises a b m n s t h x y =
       let (zs, front, rest) = cut-forward (trace p) a b m n s t h x y in
-      let inside : List·Memᴰ s (trace p) = rw (x .split) (Memᴰ·append-right (x .earlier) (List·Memᴰ·head refl)) in
       let run = run-from (trace-run p ok) (x .earlier) (x .later) s (x .split) in
       let split : trace p ≡ (x .earlier ++ zs) ++ (t ∷ y .later) = rw (← front) (y .split) in
       let counted : n ≡ length (x .earlier ++ zs) + 1 = rw (← front) (y .counted) in
       rw (between-cuts (trace p) (x .earlier) zs (y .later) t m n split (x .counted) counted)
-      (run-rises run zs (y .later) t rest (rounds-kept p ok s inside))
+      (run-rises run zs (y .later) t rest (rounds-kept p ok s (cut-inside x .0)))

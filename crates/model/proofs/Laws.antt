@@ -28,7 +28,7 @@ pub use Rattle.model.proofs.Admissible.{within-at-most, within-grows}
 
 -- The start's estimate is at most low; while high is set, low is below it and the query at high with this budget is over. So the start is within
 -- every limit that the rounds ask. Low stays below 2^29, and so limits below 2^30. The queries do not run out: the last is found or none,
--- and no other is. Low never falls from one query to the next.
+-- and no other is.
 pub use Rattle.model.proofs.Rounds.{rounds-kept, start-within-asked, low-below, limit-below, trace-finished}
 -- So the trace is a run of queries from the first round to the one that finishes it, with at most 59 × N queries. No budget exceeds q × N.
 pub use Rattle.model.proofs.Traces.{trace-run, trace-length, budget-at-most}
@@ -59,9 +59,10 @@ pub use Rattle.model.proofs.Admissible.{low-at-most-cheapest, goal-with
 -- ---- The allowance
 
 -- 16 is given exactly when the total exceeds the allowance. Then expansions is the allowance, queries counts up to and with the cut query, and
--- the last query is the one that is cut. Otherwise nothing is cut. With a larger allowance the cut moves only forward.
+-- the last query is the one that is cut. Otherwise nothing is cut, and all such allowances give the same search. An allowance has one cut; with a
+-- larger one it moves only forward.
 pub use Rattle.model.proofs.Allowance.{spent-exactly, spent-cut, not-spent, lasting-same, cut-forward, cut-later, cut-once}
--- Low is then no lower, and higher exactly where one of the queries between the two cuts is ended.
+-- Low is then no lower, and higher exactly where one of the queries from the first cut on and before the second is ended.
 pub use Rattle.model.proofs.Floors.{Rises, cut-rises}
 -- So the search ends as spent, with no route or with a route; floor and limit are those of its last query.
 pub use Rattle.model.proofs.Endings.{budgeted-ends}

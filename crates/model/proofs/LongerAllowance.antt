@@ -2,24 +2,24 @@
 use mathlib.Core.Path.{_≡_, refl, sym, ap, ap₂, _∙_}
 use mathlib.Core.Logic.{_↔_}
 use mathlib.Core.Bool.{true}
-use mathlib.Core.List.{List, _∷_, List·Memᴰ, List·Memᴰ·head, Memᴰ·append-right}
+use mathlib.Core.List.{List}
 use Prim.Native.Nat.{ℕ, zero, suc, _^_, _≤_, _<_}
 use native.Mathlib.Decide.{ℕ-discrete}
 use native.Mathlib.Omega.{arith}
-use lib.ListN.{length, length-append}
+use lib.ListN.{length}
 use Rattle.model.specs.Problem.{Problem, Valid}
 use Rattle.model.specs.Paths.{Cheapest, Admissible}
 use Rattle.model.specs.Stated.{statedIn}
-use Rattle.model.specs.Rounds.{Step, Search, trace, total}
+use Rattle.model.specs.Rounds.{Search, trace, total}
 use Rattle.model.specs.Routes.{firstRoute}
 use Rattle.model.specs.Endings.{Ending, endingIf, budgetedBy, budgeted}
 use Rattle.model.specs.Answer.{Result, refusedWith, callIf, call}
 use Rattle.model.specs.Calls.{Call, problem, allowance, IsAccepted, result, Spent, Alike}
 use Rattle.model.specs.Allowances.{inputWith, DifferInAllowance}
-use Rattle.model.specs.Terms.{CutAt, endsBetween}
+use Rattle.model.specs.Terms.{endsBetween}
 use Rattle.model.proofs.Admissible.{low-at-most-cheapest}
 use Rattle.model.proofs.Allowances.{around-refused, around-problem, around-allowance}
-use Rattle.model.proofs.Allowance.{lasting-same, cut-later}
+use Rattle.model.proofs.Allowance.{cut-inside, lasting-same, cut-later}
 use Rattle.model.proofs.Floors.{Rises, cut-rises}
 use Rattle.model.proofs.Endings.{IsSpent, Ends, spent-ends, none-ends, route-ends, budgeted-ends}
 use Rattle.model.proofs.Promises.{EndsAs, comes, valid, ends, endingOf, refusalOf, same-calls, spent-accepted}
@@ -27,12 +27,6 @@ use Rattle.model.proofs.Promises.{spent-answer, none-answer, route-answ
 use Rattle.model.proofs.Promises.{unspent-expansions, expansions-at-most}
 
 -- ---- One search
-
--- a query that is cut is one of the queries
-cut-inside : {ss : List Step} {a n : ℕ} {s : Step} → CutAt a ss s n → List·Memᴰ s ss × (n ≤ length ss)
-cut-inside {s = s} x =
-    let longer = length-append (x .earlier) (s ∷ x .later) in
-    rw (x .split) (Memᴰ·append-right (x .earlier) (List·Memᴰ·head refl), omega (arith, x .counted))
 
 module _ {p : Problem} {a : ℕ} {e : Ending} {r : Result} (comes : EndsAs e r) where
   unspent-lasts : Ends p a e → (Spent r → ⊥) → total (trace p) ≤ a

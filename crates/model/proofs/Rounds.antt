@@ -145,7 +145,6 @@ module _ (p : Problem) (ok : Valid p) where
   -- what holds of the round that follows a kept one
   record Follows (r s : Round) : Type 0 where
     kept : RoundKept p s
-    rises : r .low ≤ s .low
     small : Small r → Small s
     lighter : Small r → weight p s < weight p r
 
@@ -156,7 +155,6 @@ module _ (p : Problem) (ok : Valid p) where
       let grown : 2 * r .budget ≤ p .growth * r .budget = mul-le-mul-right (r .budget) (ok .grows) in
       record {
         kept = kept-unset p low (p .growth * r .budget) (omega arith) (omega arith);
-        rises = rises;
         small = λ m. small-unset low (p .growth * r .budget) (bounds m .0);
         lighter = λ m. omega (arith, bounds m);
       }
@@ -179,7 +177,6 @@ module _ (p : Problem) (ok : Valid p) where
               high-above = λ h f. let same : high ≡ h = cc in omega (arith, apart);
               high-over = λ h f. let same : high ≡ h = cc in rw (← same) exceeded;
             };
-            rises = rises;
             small = λ m. record { low-small = bounds m .0; high-small = λ h f. let same : high ≡ h = cc in omega (arith, bounds m) };
             lighter = λ m. omega (arith, bounds m);
           }
@@ -192,7 +189,6 @@ module _ (p : Problem) (ok : Valid p) where
       let below : x < 2 ^ 29 = ended-below (2 * low) b x e in
       record {
         kept = kept-unset p x b (omega arith) (omega arith);
-        rises = omega arith;
         small = λ m. small-unset x b below;
         lighter = λ m. omega arith;
       }
