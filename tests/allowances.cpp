@@ -139,6 +139,8 @@ class Test {
     {
         if (now_.spent() && !before.spent())
             return "damaged, and spent with more allowance alone";
+        if (now_.refused() && before.spent())
+            return "damaged, and refused with more allowance alone";
         if (now_.spent() && now_.answer.floor < before.answer.floor)
             return "damaged, and the floor falls";
         if (!before.spent() && !now_.same(before))

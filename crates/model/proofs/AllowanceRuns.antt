@@ -11,7 +11,7 @@ use Rattle.model.specs.Stated.{statedIn, problemOf}
 use Rattle.model.specs.Rounds.{trace}
 use Rattle.model.specs.Answer.{route}
 use Rattle.model.specs.Allowances.{Around, inputWith}
-use Rattle.model.specs.Terms.{isEnded, endsBetween}
+use Rattle.model.specs.Terms.{isEnded, someEnded, endsBetween}
 use Rattle.model.proofs.Compute.{compute}
 use Rattle.model.proofs.Runs.{mapA, same}
 
@@ -60,5 +60,5 @@ ended : ℕ → ℕ → Bool
 ended m n = endsBetween m n (trace (problemOf (statedIn (inputWith around 0))))
 
 queries-that-end : (ended 1 2 ≡ true) × (ended 2 9 ≡ false) × (ended 9 10 ≡ true) × (ended 1 1 ≡ false)
-unfolding compute around mapA inputWith ended endsBetween isEnded
+unfolding compute around mapA inputWith ended endsBetween someEnded isEnded
 queries-that-end = (refl, refl, refl, refl)

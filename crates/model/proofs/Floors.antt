@@ -11,7 +11,7 @@ use Rattle.model.specs.Lists.{any}
 use Rattle.model.specs.Problem.{Problem, Valid}
 use Rattle.model.specs.Query.{Outcome, ended, over, found, nothing, query}
 use Rattle.model.specs.Rounds.{Round, Step, limitOf, after, ask, next, trace}
-use Rattle.model.specs.Terms.{RoundKept, CutAt, Run, last, more, isEnded, endsBetween}
+use Rattle.model.specs.Terms.{RoundKept, CutAt, Run, last, more, isEnded, someEnded, endsBetween}
 use Rattle.model.proofs.Lists.{none-some}
 use Rattle.model.proofs.Rounds.{settle-low, kept-next, low-limit, ended-above, rounds-kept}
 use Rattle.model.proofs.Traces.{trace-run}
@@ -60,8 +60,8 @@ module _ (p : Problem) (ok : Valid p) where
 
   -- along the queries that come before t
   run-rises : {r : Round} {ss : List Step} → Run p r ss → (zs later : List Step) (t : Step) → ss ≡ zs ++ (t ∷ later) → RoundKept p r
-      → Rises (r .low) (t .round .low) (any (λ (s : Step). isEnded (s .query .outcome)) zs)
-  unfolding any
+      → Rises (r .low) (t .round .low) (someEnded zs)
+  unfolding any someEnded
   run-rises {r} (last e) [] later t split k = none-rises r t (head-eq-of-cons-eq split)
   run-rises (last e) (z ∷ zs) later t split k = absurd (omega (arith, ap length split, length-append zs (t ∷ later)))
   run-rises {r} (more e run) [] later t split k = none-rises r t (head-eq-of-cons-eq split)
@@ -98,5 +98,6 @@ module _ (p : Problem) (ok : Valid p) where
       let run = run-from (trace-run p ok) (x .earlier) (x .later) s (x .split) in
       let split : trace p ≡ (x .earlier ++ zs) ++ (t ∷ y .later) = rw (← front) (y .split) in
       let counted : n ≡ length (x .earlier ++ zs) + 1 = rw (← front) (y .counted) in
-      rw (between-cuts (trace p) (x .earlier) zs (y .later) t m n split (x .counted) counted)
-      (run-rises run zs (y .later) t rest (rounds-kept p ok s (cut-inside x .0)))
+      let between : endsBetween m n (trace p) ≡ someEnded zs
+      = ap someEnded (between-cuts (trace p) (x .earlier) zs (y .later) t m n split (x .counted) counted) in
+      rw between (run-rises run zs (y .later) t rest (rounds-kept p ok s (cut-inside x .0)))

@@ -74,9 +74,13 @@ isEnded over = false
 isEnded found = false
 isEnded nothing = false
 
+-- some query is ended
+unfoldable pub someEnded : List Step → Bool
+someEnded ss = any (λ (s : Step). isEnded (s .query .outcome)) ss
+
 -- of the queries from the m-th on and before the n-th, some query is ended
 unfoldable pub endsBetween : (m n : ℕ) → List Step → Bool
-endsBetween m n ss = any (λ (s : Step). isEnded (s .query .outcome)) (drop (m - 1) (take (n - 1) ss))
+endsBetween m n ss = someEnded (drop (m - 1) (take (n - 1) ss))
 
 -- The queries from a round on, one after another, up to the one that finishes the search.
 pub data Run (p : Problem) : Round → List Step → Type 0 where
