@@ -5,6 +5,8 @@
 
 #include "r3.h"
 
+constexpr size_t longest_input = 1 << 19; // no accepted input is longer
+
 struct Routing : plain::Router {
     static constexpr auto exported = r3_route;
     static constexpr size_t most_bytes = R3_BYTES; // that a call may ask for
@@ -13,6 +15,6 @@ struct Routing : plain::Router {
 
 struct Writing : plain::Writer {
     static constexpr auto exported = r3_write_map;
-    static constexpr size_t most_bytes = 1 << 18; // no accepted input is longer
+    static constexpr size_t most_bytes = longest_input;
     template <class... Lent> plain::Answer by_hand(Lent... lent) { return write(lent...); }
 };

@@ -5,7 +5,7 @@
 
 #include "plain.hpp"
 
-// an arc with a class is written with it and its length
+// a lane; one with a class is written with it and its length
 struct Arc {
     uint32_t from, to, cost, lane_class = plain::none;
 };
@@ -23,8 +23,12 @@ inline std::vector<uint32_t> classes(uint32_t cost)
 struct Map {
     const char *name = "";
     uint32_t places = 0, start = 0, allowance = 0;
-    std::vector<uint32_t> goals, estimate; // an estimate of none: the place has no record
+    std::vector<uint32_t> goals, estimate, wait; // an estimate or a wait of none: the place has no record
     std::vector<Arc> arcs;
+
+    uint32_t wait_at(uint32_t v) const { return wait[v] == plain::none ? 0 : wait[v]; }
+    // of the lane, with the wait of the place that it leaves
+    uint32_t cost(const Arc &a) const { return a.cost + wait_at(a.from); }
 };
 
 inline void put(std::vector<uint8_t> &out, uint32_t x, int bytes)
@@ -57,6 +61,25 @@ inline void put_estimate(std::vector<uint8_t> &out, uint32_t place, uint32_t est
     put(out, estimate, 4);
 }
 
+inline void put_wait(std::vector<uint8_t> &out, uint32_t place, uint32_t wait)
+{
+    put_front(out, 4, 6);
+    put(out, place, 2);
+    put(out, wait, 2);
+}
+
+// the waits by place, evenly among the arcs
+inline void put_arcs_and_waits(std::vector<uint8_t> &out, const Map &m)
+{
+    size_t next = 0;
+    for (uint32_t v = 0; v < m.places; v++) {
+        if (m.wait[v] != plain::none)
+            put_wait(out, v, m.wait[v]);
+        for (; next < m.arcs.size() * (v + 1) / m.places; next++)
+            put_arc(out, m.arcs[next]);
+    }
+}
+
 inline std::vector<uint8_t> input_of(const Map &m)
 {
     std::vector<uint8_t> out;
@@ -64,8 +87,7 @@ inline std::vector<uint8_t> input_of(const Map &m)
     put_front(out, 4, 1);
     put(out, m.places, 2);
     put(out, static_cast<uint32_t>(m.arcs.size()), 2);
-    for (const Arc &a : m.arcs)
-        put_arc(out, a);
+    put_arcs_and_waits(out, m);
     for (uint32_t v = 0; v < m.places; v++)
         if (m.estimate[v] != plain::none)
             put_estimate(out, v, m.estimate[v]);

@@ -20,6 +20,7 @@ inline Map empty(const char *name, uint32_t places, uint32_t start, uint32_t goa
     m.allowance = 236 * places;
     m.goals = {goal};
     m.estimate.assign(places, none);
+    m.wait.assign(places, none);
     return m;
 }
 
@@ -39,21 +40,30 @@ inline std::vector<uint32_t> costs_to_goal(const Map &m)
     for (bool changed = true; changed;) {
         changed = false;
         for (const Arc &a : m.arcs)
-            if (least[a.to] != none && least[a.to] + a.cost < least[a.from]) {
-                least[a.from] = least[a.to] + a.cost;
+            if (least[a.to] != none && least[a.to] + m.cost(a) < least[a.from]) {
+                least[a.from] = least[a.to] + m.cost(a);
                 changed = true;
             }
     }
     return least;
 }
 
-// about `share` per cent of the places get an estimate, 95 % of the least cost to the goal, so that none overstates
-inline void add_estimates(Map &m, Chance &chance, uint32_t share)
+// where there is an estimate it becomes 95 % of the least cost to the goal, so that none overstates
+inline void set_estimates(Map &m)
 {
     std::vector<uint32_t> least = costs_to_goal(m);
     for (uint32_t v = 0; v < m.places; v++)
-        if (chance.below(100) < share)
+        if (m.estimate[v] != none)
             m.estimate[v] = least[v] == none ? 0 : static_cast<uint32_t>(uint64_t{least[v]} * 95 / 100);
+}
+
+// about `share` per cent of the places get an estimate
+inline void add_estimates(Map &m, Chance &chance, uint32_t share)
+{
+    for (uint32_t &estimate : m.estimate)
+        if (chance.below(100) < share)
+            estimate = 0;
+    set_estimates(m);
 }
 
 inline void both_ways(Map &m, uint32_t u, uint32_t v, uint32_t cost)
@@ -86,6 +96,18 @@ inline Map classed(Map m)
     for (Arc &a : m.arcs)
         if (std::vector<uint32_t> all = classes(a.cost); chance.below(2) == 0)
             a.lane_class = all[chance.below(static_cast<uint32_t>(all.size()))];
+    return m;
+}
+
+// the same with a wait at about one place in eight, and estimates that go by it
+inline Map doored(Map m)
+{
+    Chance chance;
+    m.name = "doors";
+    for (uint32_t &wait : m.wait)
+        if (chance.below(8) == 0)
+            wait = 1 + chance.below(30);
+    set_estimates(m);
     return m;
 }
 
@@ -178,6 +200,7 @@ inline Map far_goal(uint32_t k)
     m.places += 4000;
     m.allowance = 236 * m.places;
     m.estimate.resize(m.places, none);
+    m.wait.resize(m.places, none);
     m.estimate[m.start] = costs_to_goal(m)[m.start] * 95 / 100;
     return m;
 }
@@ -186,7 +209,8 @@ inline std::vector<Map> all()
 {
     return {
         grid(16, false, 60), grid(23, false, 60), grid(32, false, 60), grid(45, false, 60), grid(64, false, 60),
-        grid(64, false, 0), grid(64, false, 95), grid(64, true, 0), grid(64, true, 60), grid(64, true, 95), classed(grid(64, false, 60)),
+        grid(64, false, 0), grid(64, false, 95), grid(64, true, 0), grid(64, true, 60), grid(64, true, 95),
+        classed(grid(64, false, 60)), doored(grid(64, false, 60)),
         random(4096, 0), random(4096, 60), random(4096, 100), random(2000, 95), // the third has all arcs and estimates that a map can have
         star(4096), star(300), hubs(), chain(), martelli(16), mero(1000), far_goal(16),
     };

@@ -5,8 +5,9 @@
  *
  * A slice is passed as a pointer and a length, counted in elements. What is promised rests on four things that nobody checks:
  * no pointer is null, also where the length is 0; words are aligned as uint32_t is; the areas that a call may write overlap
- * neither each other nor what it reads; and there is stack enough: 64 KiB for r3_sheet and r3_write_map, and for r3_route, which puts a
- * route down by a recursion with one call for each of its places, 320 KiB. */
+ * neither each other nor what it reads; and there is stack enough: 64 KiB for r3_sheet and r3_write_map, of which judging a map takes 20
+ * for notes of its estimates and waits, and for r3_route, which besides puts a route down by a recursion with one call for each of its
+ * places, 320 KiB. */
 #ifndef R3_H
 #define R3_H
 
@@ -26,7 +27,7 @@ uint32_t r3_sheet(const uint8_t *sheet, size_t length, uint32_t question);
 /* librouter.a: routes a job. The input is read; work and sheet are lent to the call; as many of the answer's seven numbers as
  * there is room for are stored in answer: number, cost, limit, floor, expansions, queries, sheet bytes. The number comes back.
  * 0: the route sheet is at the front of the sheet area
- * 1 to 15 and 20: refused, and neither area has changed
+ * 1 to 15, 20 and 21: refused, and neither area has changed
  * 16: the allowance is spent, and no route costs less than floor where no estimate overstates; the sheet area has not changed. The same
  *     input with a larger allowance gives the answer, the same for all that are enough, or 16 again with a floor no lower
  * 17: no goal can be reached; the no-route sheet is at the front of the sheet area
@@ -40,10 +41,11 @@ uint32_t r3_route(const uint8_t *input, size_t length, uint32_t *work, size_t wo
                   uint32_t *answer, size_t room);
 
 /* libmap_writer.a: writes the map and the job of an input anew: the head, the arcs by from, to, cost, kind and what else they say,
- * the estimates other than 0 by place, then the job. Inputs that say the same are written alike. The input is read; work and output are
- * lent to the call; the answer's seven numbers are: number, five zeros, bytes written. The number comes back.
+ * the estimates other than 0 by place, the waits other than 0 by place, then the job. Inputs that say the same are written alike. The
+ * input is read; work and output are lent to the call; the answer's seven numbers are: number, five zeros, bytes written. The number
+ * comes back.
  * 0: the map is at the front of the output area
- * 1 to 15 and 20: refused as by r3_route, and neither area has changed; but 15 is for an output area shorter than the input
+ * 1 to 15, 20 and 21: refused as by r3_route, and neither area has changed; but 15 is for an output area shorter than the input
  * After 0 the first R3_WORDS_OF(N, M) words of work are 0. No other word or byte changes. */
 uint32_t r3_write_map(const uint8_t *input, size_t length, uint32_t *work, size_t words, uint8_t *output, size_t bytes,
                       uint32_t *answer, size_t room);

@@ -6,7 +6,7 @@
 #include "lent.h"
 #include "r3.h"
 
-enum { INPUT = 1 << 18, WORK = 1 << 17, SHEET = 1 << 14 };
+enum { INPUT = 1 << 19, WORK = 1 << 17, SHEET = 1 << 14 };
 
 /* a case's numbers: the group, which is not asked for here, lengths, the answer's seven, and how many work words are 0 after the call */
 enum { LENGTH = 1, WORDS, BYTES, ANSWER, SHEET_BYTES = ANSWER + 6, ZEROS, NUMBERS };

@@ -8,8 +8,8 @@ crates/cases/stdout has the number of cases in each group.
 
 A case is 12 numbers of 4 bytes, little-endian: its group, bytes of the input, words lent, bytes lent, the seven numbers of the answer, and how many
 work words are 0 after the call; then the input; then the sheet. The answers are those of tests/reference.py. They must be what document 01 says of
-its own runs; number and cost must be what the Boost Graph Library says of random maps; and where the number of places decides between cheapest
-routes, the route must be the first of all that there are. Otherwise nothing is made."""
+its own runs, and what was found by hand for some maps with waits; number and cost must be what the Boost Graph Library says of random maps; and where
+the number of places decides between cheapest routes, the route must be the first of all that there are. Otherwise nothing is made."""
 import os
 import random
 import struct
@@ -17,9 +17,10 @@ import subprocess
 import sys
 
 from by_hand import lines, runs
+from doors import doors
 from edges import ends_of_fields, ends_of_records, refused
 from inputs import Graph, any_estimates, as_measured, classes, damaged, records_before_job, some_graph, some_map
-from reference import ARCS, COST, ESTIMATE, GOALS, PLACES, Problem, arc, cleared, estimate, head, job, route, u16
+from reference import ARCS, COST, ESTIMATE, GOALS, PLACES, Problem, arc, cleared, estimate, head, job, route, u16, wait
 from ties import along_a_line, ties
 
 DOCUMENT, REFUSALS, ENDS, CONSISTENT, GAPS, OVERSTATING, DAMAGED, FEWEST = range(8)
@@ -56,18 +57,19 @@ def refusals():
 
 
 def whole_graph(rnd):
-    """as many places, arcs and goals as there may be, the goals at the far end"""
+    """as many places, arcs, goals and waits as there may be, the goals at the far end"""
     arcs = [(u, min(max(u + rnd.randint(-20, 40), 0), PLACES - 1), rnd.randint(1, 9)) for u in list(range(PLACES)) * (ARCS // PLACES)]
-    return Graph(PLACES, arcs, list(range(PLACES - GOALS, PLACES)))
+    return Graph(PLACES, arcs, list(range(PLACES - GOALS, PLACES)), {v: rnd.randint(0, 9) for v in range(PLACES)})
 
 
 def largest(graph, far):
     """the longest input that is not refused; one with an arc too many; and the longest route, with the highest cost and the highest limit"""
-    arcs = b''.join(as_measured(u, v, cost, classes(cost)[-1]) for u, v, cost in graph.arcs)
+    arcs = b''.join(as_measured(u, v, lane, classes(lane)[-1]) for u, v, lane in graph.arcs)
+    waits = b''.join(wait(*w) for w in graph.waits.items())
     estimates = b''.join(estimate(v, (d or 0) * 6 // 10) for v, d in enumerate(far))
-    data = head(PLACES, ARCS) + arcs + estimates + job(20, 236 * PLACES, graph.goals)
+    data = head(PLACES, ARCS) + arcs + waits + estimates + job(20, 236 * PLACES, graph.goals)
     agree(data, far[20], False)
-    chain = b''.join(arc(v, v + 1, COST) for v in range(PLACES - 1)) + estimate(PLACES - 2, ESTIMATE)
+    chain = b''.join(arc(v, v + 1, COST - v % 5) + wait(v, v % 5) for v in range(PLACES - 1)) + estimate(PLACES - 2, ESTIMATE)
     return data, head(PLACES, ARCS + 1) + arcs + arc(0, 0, 1) + job(0, 9, [1]), head(PLACES, PLACES - 1) + chain + job(0, 236 * PLACES, [PLACES - 1])
 
 
@@ -75,7 +77,7 @@ def least(program, graphs):
     """each graph with the least cost from every place to a goal by Boost, None where there is none"""
     text = []
     for g in graphs:
-        text += [f'{g.places} {len(g.arcs)} {len(g.goals)}', *('%d %d %d' % a for a in g.arcs), *map(str, g.goals)]
+        text += [f'{g.places} {len(g.arcs)} {len(g.goals)}', *('%d %d %d' % a for a in g.with_waits()), *map(str, g.goals)]
     lines = subprocess.run([program], input='\n'.join(text), stdout=subprocess.PIPE, text=True, check=True).stdout.splitlines()
     return [(g, [None if word == '-' else int(word) for word in line.split()]) for g, line in zip(graphs, lines, strict=True)]
 
@@ -103,7 +105,7 @@ def some_estimates(rnd, graph, far):
 def group_of(graph, estimates, far):
     if any(d is not None and h > d for h, d in zip(estimates, far)):
         return OVERSTATING
-    return CONSISTENT if all(estimates[u] <= cost + estimates[v] for u, v, cost in graph.arcs) else GAPS
+    return CONSISTENT if all(estimates[u] <= cost + estimates[v] for u, v, cost in graph.with_waits()) else GAPS
 
 
 def some_case(rnd, graph, far):
@@ -144,6 +146,18 @@ def first_routes(data):
     return places, uncounted[2][::-1]
 
 
+def waited(rnd, graphs):
+    """the maps with waits by hand, each with its graph by Boost"""
+    for door, (graph, far) in zip(doors(), graphs):
+        data, free = (b''.join(records_before_job(rnd, g, [0] * g.places)) + job(0, 236 * g.places, g.goals)
+                      for g in (graph, graph._replace(waits={})))
+        agree(data, far[0], False)
+        given = door._replace(cost=far[0], places=first_routes(data)[0], free=first_routes(free)[0])
+        if given != door:
+            sys.exit(f'not as by hand: {door}, {given}')
+        yield case(CONSISTENT, data, *needs(data))
+
+
 def counted(rnd, count):
     """the maps by hand, and so many random ones whose first route would be another if places were not counted"""
     for tie in ties():
@@ -165,11 +179,13 @@ def counted(rnd, count):
 def all_cases(program):
     rnd = random.Random(1)
     sizes = [200] * 4 + [rnd.randint(2, rnd.randint(2, 60)) for _ in range(496)]
-    whole, *graphs = least(program, [whole_graph(rnd), *(some_graph(rnd, places) for places in sizes)])
+    by_hand = [door.graph for door in doors()]
+    whole, *graphs = least(program, [whole_graph(rnd), *by_hand, *(some_graph(rnd, places) for places in sizes)])
     yield from documented()
     yield from refusals()
     yield from (case(ENDS, data, *needs(data)) for data in (*ends_of_fields(), *ends_of_records(), *largest(*whole)))
-    yield from (some_case(rnd, *graph) for graph in graphs)
+    yield from waited(rnd, graphs[:len(by_hand)])
+    yield from (some_case(rnd, *graph) for graph in graphs[len(by_hand):])
     yield from (some_damage(rnd) for _ in range(80))
     yield from counted(rnd, 100)
 

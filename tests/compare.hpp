@@ -65,6 +65,6 @@ template <class Call> class Comparison {
     }
 
     Call call_;
-    Area<uint8_t> input_{1 << 18}, out_{Call::most_bytes + spare}, other_out_{Call::most_bytes + spare};
+    Area<uint8_t> input_{longest_input}, out_{Call::most_bytes + spare}, other_out_{Call::most_bytes + spare};
     Area<uint32_t> work_{R3_WORDS + spare}, other_work_{R3_WORDS + spare}, numbers_{9}, other_numbers_{9};
 };

@@ -1,14 +1,17 @@
 """Inputs at the edges, for tests/cases.py: every refusal of an input alone and in pairs, and the ends of every range."""
 import itertools
 
-from reference import COST, ESTIMATE, FACTORS, GOALS, LENGTH, ORDER, PLACES, SIZES, arc, estimate, head, job, measured, p16, record
+from reference import COST, ESTIMATE, FACTORS, GOALS, LENGTH, ORDER, PLACES, SIZES, arc, estimate, head, job, measured, p16, record, wait
+
+# what gets 21 in the map below: two waits for one place, and one with which a lane of either kind is too dear
+BAD_WAITS = [wait(2, 5), wait(2, 5)], [wait(0, COST)], [wait(1, COST)]
 
 
-def broken(kinds):
-    """an input that has the conditions of these refusals, and asks for 52 words and 16 bytes"""
-    n, first, arcs, more = 3, head(3, 2), [arc(0, 1, 2), arc(1, 2, 2)], []
+def broken(kinds, waits=BAD_WAITS[0]):
+    """an input that has the conditions of these refusals, 21 by these waits, and asks for 56 words and 16 bytes"""
+    n, first, arcs, more = 3, head(3, 4), [arc(0, 1, 2), measured(1, 2, 1, 1), arc(2, 0, 2), measured(2, 0, 1, 1)], []
     if 2 in kinds:
-        more.append(record(6, b''))
+        more.append(record(7, b''))
     if 3 in kinds:
         more.append(record(3, b'\0'))
     if 4 in kinds:
@@ -18,13 +21,15 @@ def broken(kinds):
     if 6 in kinds:
         more.append(estimate(n, 1))
     if 7 in kinds:
-        arcs[1] = arc(1, 2, 0)
+        arcs[2] = arc(2, 0, 0)
     if 8 in kinds:
         more.append(estimate(0, ESTIMATE + 1))
     if 9 in kinds:
         more += [estimate(1, 1), estimate(1, 1)]
     if 20 in kinds:
-        arcs[0] = measured(0, 1, 0, 0)
+        arcs[3] = measured(2, 0, 0, 1)
+    if 21 in kinds:
+        more += waits
     if 13 in kinds:
         more.append(estimate(2, 4))
     last = job(n if 11 in kinds else 0, 999, [2, 2] if 12 in kinds else [2])
@@ -34,10 +39,11 @@ def broken(kinds):
 def refused():
     """the inputs with words and bytes lent, and the number that is the first in the order"""
     alone = [number for number in ORDER if number not in (14, 15)]
+    lent = (56, 16), (55, 16), (56, 15), (55, 15), (0, 0)
     for kinds in itertools.chain([()], itertools.combinations(alone, 1), itertools.combinations(alone, 2)):
-        for words, room in ((52, 16), (51, 16), (52, 15), (51, 15), (0, 0)):
-            holding = {*kinds, *[14] * (words < 52), *[15] * (room < 16)}
-            yield broken(kinds), words, room, next((number for number in ORDER if number in holding), 0)
+        for waits, (words, room) in itertools.product(BAD_WAITS if 21 in kinds else [[]], lent):
+            holding = {*kinds, *[14] * (words < 56), *[15] * (room < 16)}
+            yield broken(kinds, waits), words, room, next((number for number in ORDER if number in holding), 0)
 
 
 def ends_of_fields():
@@ -48,17 +54,25 @@ def ends_of_fields():
     for v in (0, 2, 3):
         yield from (head(3, 1) + arc(v, 0, 1) + job(0, 708, [0]), head(3, 1) + arc(0, v, 1) + job(0, 708, [2]))
         yield from (head(3, 1) + measured(v, 0, 1, 0) + job(0, 708, [0]), head(3, 1) + measured(0, v, 1, 0) + job(0, 708, [2]))
-        yield from (one + estimate(v, 0) + job(0, 708, [1]), one + job(v, 708, [1]))
+        yield from (one + estimate(v, 0) + job(0, 708, [1]), one + wait(v, 1) + job(0, 708, [1]), one + job(v, 708, [1]))
         yield from (one + job(0, 708, goals) for goals in ([v], [0, v], [v, 0]))
     for cost in (0, 1, COST):
         yield head(2, 1) + arc(0, 1, cost) + job(0, 472, [1])
     for length in (0, 1, LENGTH, LENGTH + 1, 65535):
         for class_ in (*range(len(FACTORS) + 1), 65535):
             yield head(2, 1) + measured(0, 1, length, class_) + job(0, 472, [1])
+    for w in (0, 1, COST - 1, COST):  # at the start, and at a goal, which no arc leaves
+        yield from (head(2, 1) + wait(v, w) + arc(0, 1, 1) + job(0, 472, [1]) for v in (0, 1))
+    for w in (15, 16):
+        yield head(2, 1) + measured(0, 1, LENGTH, len(FACTORS) - 1) + wait(0, w) + job(0, 472, [1])
+    for first, second in ((1, 2), (2, 1)):  # one of two arcs is too dear
+        yield head(2, 2) + arc(0, 1, first) + wait(0, COST - 1) + arc(0, 1, second) + job(0, 472, [1])
     for h in (0, 1, ESTIMATE, ESTIMATE + 1, 2 ** 32 - 1):
         yield from (one + estimate(0, h) + job(0, 708, [1]), one + estimate(0, h) + job(0, 708, [2]), one + estimate(1, h) + job(0, 708, [1]))
-    for first, second in ((1, 1), (1, 2), (0, 2), (2, 0)):
-        yield one + estimate(2, first) + estimate(2, second) + job(0, 708, [1])
+    for first, second in ((0, 0), (1, 1), (1, 2), (0, 2), (2, 0)):
+        yield from (one + twice(2, first) + twice(2, second) + job(0, 708, [1]) for twice in (estimate, wait))
+    for v in (3, 65535):
+        yield from (one + twice(v, 1) + twice(v, 1) + job(0, 708, [1]) for twice in (estimate, wait))
     for allowance in (0, 1, 2, 2 ** 32 - 1):
         yield one + job(0, allowance, [1])
     for k in (0, 1, GOALS, GOALS + 1):
@@ -75,7 +89,10 @@ def ends_of_records():
     # arcs of both kinds count: one too many and just enough of them, before the job and behind it
     yield from (one + measured(0, 1, 1, 0) + end, head(3, 2) + arc(0, 1, 9) + measured(0, 1, 2, 3) + end)
     yield from (head(3, 0) + end + measured(0, 1, 1, 0), one + end + measured(0, 1, 0, 0), head(3, 2) + arc(0, 1, 1) + end + measured(0, 1, 0, 0))
-    for kind in (0, 6, 256, 261, 65535):
+    # a wait behind the job: 10 where nothing is wrong with it, and else what it is given before the job
+    yield from (one + end + wait(*w) for w in ((0, 1), (0, COST), (3, 1)))
+    yield one + wait(0, 1) + end + wait(0, 1)
+    for kind in (0, 7, 256, 262, 65535):
         yield one + record(kind, b'') + end
     for kind, length in (*SIZES.items(), (4, 8), (4, 10)):
         for size in (length - 1, length, length + 1):

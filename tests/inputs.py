@@ -1,9 +1,15 @@
 """Random maps, and inputs damaged at random."""
 from collections import namedtuple
 
-from reference import COST, ESTIMATE, FACTORS, GOALS, LENGTH, arc, estimate, head, job, measured, record
+from reference import COST, ESTIMATE, FACTORS, GOALS, LENGTH, arc, estimate, head, job, measured, record, wait
 
-Graph = namedtuple('Graph', 'places arcs goals')
+
+class Graph(namedtuple('Graph', 'places arcs goals waits')):
+    """an arc has the cost of its lane; waits: by place, of those that have a record"""
+
+    def with_waits(self):
+        """the arcs at what they cost: the lane, and the wait of the place that they leave"""
+        return [(u, v, lane + self.waits.get(u, 0)) for u, v, lane in self.arcs]
 
 
 def some_graph(rnd, places):
@@ -15,11 +21,21 @@ def some_graph(rnd, places):
         u = rnd.randrange(places)
         arcs.append((u, (u + rnd.choice(steps)) % places, rnd.randint(1, dear)))
     goals = rnd.sample(range(places), min(rnd.choice([1, 1, 2, 5, GOALS]), (places + 2) // 3))
-    return Graph(places, arcs, sorted(goals))
+    return Graph(places, arcs, sorted(goals), some_waits(rnd, places, arcs))
+
+
+def some_waits(rnd, places, arcs):
+    """none in half of the maps; now and then so long that a place's dearest arc costs as much as an arc may"""
+    if rnd.random() < 0.5:
+        return {}
+    longest, share, high = [COST] * places, rnd.choice([0.1, 0.5, 1]), rnd.choice([1, 1, 9, COST])
+    for u, _, lane in arcs:
+        longest[u] = min(longest[u], COST - lane)
+    return {v: min(longest[v], rnd.randint(0, high) if rnd.random() < 0.9 else COST) for v in range(places) if rnd.random() < share}
 
 
 def any_estimates(rnd, graph):
-    high = rnd.choice([0, 3 * max(cost for _, _, cost in graph.arcs), ESTIMATE])
+    high = rnd.choice([0, 3 * max(cost for _, _, cost in graph.with_waits()), ESTIMATE])
     return [0 if v in graph.goals else rnd.randint(0, high) for v in range(graph.places)]
 
 
@@ -40,8 +56,9 @@ def lane(rnd, start, end, cost):
 
 
 def records_before_job(rnd, graph, estimates):
-    """arcs of both kinds and estimates mix freely; an estimate of 0 has a record now and then"""
-    mixed = [lane(rnd, *a) for a in graph.arcs] + [estimate(v, h) for v, h in enumerate(estimates) if h != 0 or rnd.random() < 0.2]
+    """arcs of both kinds, estimates and waits mix freely; an estimate of 0 has a record now and then"""
+    mixed = [lane(rnd, *a) for a in graph.arcs] + [wait(*w) for w in graph.waits.items()]
+    mixed += [estimate(v, h) for v, h in enumerate(estimates) if h != 0 or rnd.random() < 0.2]
     rnd.shuffle(mixed)
     return [head(graph.places, len(graph.arcs)), *mixed]
 
@@ -63,7 +80,7 @@ def damaged(rnd, records):
     if way == 2:
         records.insert(rnd.randrange(len(records) + 1), rnd.choice(records))
     if way == 3:
-        records.insert(rnd.randrange(len(records) + 1), record(rnd.randrange(7), bytes(rnd.randrange(10))))
+        records.insert(rnd.randrange(len(records) + 1), record(rnd.randrange(8), bytes(rnd.randrange(10))))
     data = bytearray(b''.join(records))
     if way == 4:
         for _ in range(rnd.randint(1, 3)):

@@ -12,6 +12,7 @@ int main()
         m.places = static_cast<uint32_t>(places);
         m.arcs.resize(arcs);
         m.goals.resize(goals);
+        m.wait.assign(places, plain::none); // they are in the costs
         for (Arc &a : m.arcs)
             std::cin >> a.from >> a.to >> a.cost;
         for (uint32_t &g : m.goals)

@@ -15,7 +15,7 @@ inline std::vector<long> least_costs(const Map &m)
     using Graph = boost::adjacency_list<boost::vecS, boost::vecS, boost::directedS, boost::no_property, boost::property<boost::edge_weight_t, long>>;
     Graph graph(m.places + 1); // the arcs backwards, and one more vertex with arcs of cost 0 to every goal
     for (const Arc &a : m.arcs)
-        boost::add_edge(a.to, a.from, a.cost, graph);
+        boost::add_edge(a.to, a.from, m.cost(a), graph);
     for (uint32_t g : m.goals)
         boost::add_edge(m.places, g, 0L, graph);
     std::vector<long> far(m.places + 1, unreached);

@@ -10,6 +10,7 @@ A line of a listing is one record; what follows a # is a comment.
     arc from 0 to 1 cost 1
     arc from 0 to 1 length 30 class 2
     estimate at 1 is 4
+    wait at 3 is 40
     job start 0 allowance 944 goals 3   several goals: goals 3 5 9
     record 9 01 00 FF                   any other record: its kind, then its body in hex
     bytes 0A 00 04                      bytes that are no whole record, in hex
@@ -17,12 +18,13 @@ A line of a listing is one record; what follows a # is a comment.
 Every input has a listing that gives it back, a damaged one too."""
 import sys
 
-from reference import arc, estimate, fits, frame, head, is_arc, is_known, job, measured, record, u16, u32
+from reference import arc, estimate, fits, frame, head, is_arc, is_known, job, measured, record, u16, u32, wait
 
 FORMS = {
     'places': 'places N, or places N arcs M',
     'arc': 'arc from PLACE to PLACE cost NUMBER, or .. length NUMBER class NUMBER',
     'estimate': 'estimate at PLACE is NUMBER',
+    'wait': 'wait at PLACE is NUMBER',
     'job': 'job start PLACE allowance NUMBER goals PLACE ...',
     'record': 'record KIND HEX ...',
     'bytes': 'bytes HEX ...',
@@ -60,6 +62,8 @@ def encode(words, arcs):
             return measured(*numbers(u, v, l, c))
         case ['estimate', 'at', v, 'is', h]:
             return estimate(number(v, 2), number(h, 4))
+        case ['wait', 'at', v, 'is', w]:
+            return wait(*numbers(v, w))
         case ['job', 'start', s, 'allowance', a, 'goals', *goals]:
             return job(number(s, 2), number(a, 4), numbers(*goals))
         case ['record', kind, *body]:
@@ -100,6 +104,8 @@ def decode(kind, body, arcs):
         return f'arc from {u16(body, 0)} to {u16(body, 2)} length {u16(body, 4)} class {u16(body, 6)}'
     if kind == 3:
         return f'estimate at {u16(body, 0)} is {u32(body, 2)}'
+    if kind == 6:
+        return f'wait at {u16(body, 0)} is {u16(body, 2)}'
     return ' '.join([f'job start {u16(body, 0)} allowance {u32(body, 2)} goals', *(str(u16(body, i)) for i in range(8, len(body), 2))])
 
 

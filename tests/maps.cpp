@@ -21,6 +21,7 @@ class Test {
         if (!as_boost())
             return "not as Boost says";
         decided_ += comparison_.arcs_decide();
+        waited_ += waits();
         const plain::Answer whole = comparison_.answer;
         for (uint32_t enough : {whole.expansions, 0xffffffffu})
             if (!call(enough) || comparison_.answer.numbers() != whole.numbers())
@@ -31,11 +32,12 @@ class Test {
         return nullptr;
     }
 
-    // prints how often each number came, and how often the number of arcs decided; whether each number came with each kind, and that at all
+    // prints how often each number came, how often the number of arcs decided, and how many routes have a wait; whether each number came with each
+    // kind, and the other two at all
     bool report() const
     {
-        bool all = decided_ != 0;
-        std::printf("maps: %u routes would be others if arcs were not counted\n", decided_);
+        bool all = decided_ != 0 && waited_ != 0;
+        std::printf("maps: %u routes would be others if arcs were not counted; on %u there is a wait\n", decided_, waited_);
         for (const char *name : Maps::names) {
             std::printf("maps: %-18s", name);
             for (uint32_t number : {0u, 16u, 17u}) {
@@ -87,7 +89,7 @@ class Test {
             uint32_t next = plain::u16(sheet + i), least = plain::none;
             for (const Arc &a : map_.arcs)
                 if (a.from == at && a.to == next)
-                    least = std::min(least, a.cost);
+                    least = std::min(least, map_.cost(a));
             if (least == plain::none)
                 return false;
             cost += least;
@@ -96,7 +98,17 @@ class Test {
         return cost == comparison_.answer.cost && std::binary_search(map_.goals.begin(), map_.goals.end(), at);
     }
 
-    uint32_t decided_ = 0;
+    // whether the route leaves a place that has a wait
+    bool waits() const
+    {
+        const uint8_t *sheet = comparison_.written;
+        uint32_t last = comparison_.answer.bytes - 2, i = 10;
+        while (i < last && map_.wait_at(plain::u16(sheet + i)) == 0)
+            i += 2;
+        return i < last;
+    }
+
+    uint32_t decided_ = 0, waited_ = 0;
     Maps maps_;
     Map map_;
     Comparison<Routing> comparison_;

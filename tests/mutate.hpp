@@ -23,7 +23,7 @@ class Mutator {
         else if (way < 4)
             records_.erase(i);
         else if (way < 8)
-            change(*records_.insert(i, Bytes(*j))); // one more arc or estimate, like another
+            change(*records_.insert(i, Bytes(*j))); // one more arc, estimate or wait, like another
         else if (way < 9)
             change(records_.front());
         else if (way < 11)
@@ -72,19 +72,18 @@ class Mutator {
         }
     }
 
-    // gives an arc a class, or takes it away
+    // gives an arc a class, or takes it away; makes a wait of an estimate, or an estimate of a wait
     void change_kind(Bytes &r)
     {
-        if (r.size() == 10 && r[2] == 2) {
-            r.resize(12);
-            plain::put16(&r[10], below(9));
-        } else if (r.size() == 12 && r[2] == 5) {
-            r.resize(10);
-        } else {
+        constexpr uint8_t sizes[] = {0, 0, 10, 10, 0, 12, 8}, others[] = {0, 0, 5, 6, 0, 2, 3}; // by kind
+        uint8_t kind = r[2], other = kind <= 6 ? others[kind] : 0;
+        if (other == 0 || r.size() != sizes[kind])
             return;
-        }
-        plain::put16(&r[0], static_cast<uint32_t>(r.size()) - 4);
-        r[2] ^= 7; // 2 to 5 and back
+        r.resize(sizes[other]);
+        if (other == 5)
+            plain::put16(&r[10], below(9));
+        plain::put16(&r[0], sizes[other] - 4);
+        r[2] = other;
     }
 
     std::minstd_rand chance_;

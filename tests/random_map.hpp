@@ -23,6 +23,7 @@ class Maps {
         add_goals(m, below(2) == 0 ? 1 : 1 + below(std::min(64u, 1 + places / 4)));
         uint32_t most = std::min(4 * places + 4, 16384u), fewer = below(most + 1), dear = dearest[below(5)];
         add_arcs(m, most - fewer / (1 + below(4)), dear);
+        add_waits(m, dear);
         add_estimates(m, kind, dear);
         return m;
     }
@@ -35,7 +36,7 @@ class Maps {
             Arc twin = m.arcs[below(m.arcs.size())];
             uint32_t way = below(3);
             if (way == 0)
-                twin.cost = 1 + below(std::min(2 * twin.cost, 65535u));
+                twin.cost = 1 + below(std::min(2 * twin.cost, 65535 - m.wait_at(twin.from)));
             if (way != 1)
                 twin.lane_class = some_class(twin.cost);
             m.arcs.push_back(twin);
@@ -47,6 +48,15 @@ class Maps {
     {
         std::vector<uint32_t> all = classes(cost);
         return all.empty() || below(2) == 0 ? plain::none : all[below(all.size())];
+    }
+
+    // with which the dearest arc of a place costs as much as an arc may, by place
+    static std::vector<uint32_t> longest_waits(const Map &m)
+    {
+        std::vector<uint32_t> longest(m.places, 65535);
+        for (const Arc &a : m.arcs)
+            longest[a.from] = std::min(longest[a.from], 65535 - a.cost);
+        return longest;
     }
 
     template <class At> void shuffle(At first, At last) { std::shuffle(first, last, chance_); }
@@ -80,6 +90,19 @@ class Maps {
         auto to_goal = [&](const Arc &a) { return std::binary_search(m.goals.begin(), m.goals.end(), a.to); };
         if (below(8) == 0) // no goal can be reached, unless it is the start
             m.arcs.erase(std::remove_if(m.arcs.begin(), m.arcs.end(), to_goal), m.arcs.end());
+    }
+
+    // none in half of the maps; as long as they may be at some places
+    void add_waits(Map &m, uint32_t dear)
+    {
+        m.wait.assign(m.places, plain::none);
+        if (below(2) == 0)
+            return;
+        std::vector<uint32_t> longest = longest_waits(m);
+        uint32_t share = 1 + below(100);
+        for (uint32_t v = 0; v < m.places; v++)
+            if (below(100) < share)
+                m.wait[v] = below(8) == 0 ? longest[v] : std::min(longest[v], below(dear + 1));
     }
 
     void add_estimates(Map &m, Kind kind, uint32_t dear)

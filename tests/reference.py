@@ -1,16 +1,16 @@
-"""Document 01 and document 02's papers 1 to 3 once more, in Python and as plainly as possible: the second source that tests hold the answers of
-the router and of the map writer against."""
+"""Document 01 and document 02's papers 1 to 3 and 5 once more, in Python and as plainly as possible: the second source that tests hold the answers
+of the router and of the map writer against."""
 import heapq
 
 PLACES, ARCS, COST, ESTIMATE, GOALS = 4096, 16384, 65535, 268435455, 64
 LENGTH, FACTORS = 4095, (1, 2, 3, 4, 6, 8, 12, 16)
 
 # how long a body is, by its kind; a job's depends on its goals
-SIZES = {1: 4, 2: 6, 3: 6, 5: 8}
+SIZES = {1: 4, 2: 6, 3: 6, 5: 8, 6: 4}
 JOB = 4
 
 # the refusals in the order in which they are looked for
-ORDER = (*range(1, 10), 20, *range(10, 16))
+ORDER = (*range(1, 10), 20, 21, *range(10, 16))
 
 
 def u16(b, i):
@@ -45,6 +45,10 @@ def estimate(place, value):
     return record(3, p16(place) + value.to_bytes(4, 'little'))
 
 
+def wait(place, value):
+    return record(6, p16(place) + p16(value))
+
+
 def job(start, allowance, goals, count=None):
     return record(JOB, p16(start) + allowance.to_bytes(4, 'little') + p16(len(goals) if count is None else count) + b''.join(map(p16, goals)))
 
@@ -74,8 +78,28 @@ def is_arc(kind):
     return kind in (2, 5)
 
 
-def cost_of(kind, body):
+def values(records, kind):
+    """place and value of each estimate, kind 3, or of each wait, kind 6"""
+    return [(u16(b, 0), int.from_bytes(b[2:], 'little')) for k, b in records if k == kind]
+
+
+def lane_cost(kind, body):
     return u16(body, 4) if kind == 2 else u16(body, 4) * FACTORS[u16(body, 6)]
+
+
+def arcs_of(records):
+    """from, to and cost of each arc: its lane's, and the wait of the place that it leaves"""
+    waits = dict(values(records, 6))
+    return [(u16(b, 0), u16(b, 2), lane_cost(k, b) + waits.get(u16(b, 0), 0)) for k, b in records if is_arc(k)]
+
+
+def repeats(pairs):
+    """whether a place has two values"""
+    return len(dict(pairs)) < len(pairs)
+
+
+def words_needed(data):
+    return 16 * u16(data, 4) + 2 * u16(data, 6)
 
 
 def sheet_bytes(data):
@@ -92,24 +116,39 @@ def refusal(data, words, room, asked=sheet_bytes):
         return 2
     if any(not fits(k, b) for k, b in records):
         return 3
+    number = map_refusal(records) or job_refusal(records)
+    if number:
+        return number
+    if words < words_needed(data):
+        return 14
+    return 15 if room < asked(data) else 0
+
+
+def map_refusal(records):
+    """4 to 9, 20 or 21, or 0"""
     kinds = [k for k, _ in records]
     if kinds[:1] != [1] or kinds.count(1) > 1:
         return 4
     n, m = u16(records[0][1], 0), u16(records[0][1], 2)
     if not 1 <= n <= PLACES or m > ARCS or m != sum(map(is_arc, kinds)):
         return 5
-    arcs = [(u16(b, 0), u16(b, 2)) for k, b in records if is_arc(k)]
-    estimates = [(u16(b, 0), u32(b, 2)) for k, b in records if k == 3]
-    if any(u >= n or v >= n for u, v in arcs) or any(v >= n for v, _ in estimates):
+    estimates, waits = values(records, 3), values(records, 6)
+    if any(is_arc(k) and max(u16(b, 0), u16(b, 2)) >= n for k, b in records) or any(v >= n for v, _ in estimates + waits):
         return 6
     if any(k == 2 and u16(b, 4) == 0 for k, b in records):
         return 7
     if any(h > ESTIMATE for _, h in estimates):
         return 8
-    if len({v for v, _ in estimates}) < len(estimates):
+    if repeats(estimates):
         return 9
     if any(k == 5 and not (1 <= u16(b, 4) <= LENGTH and u16(b, 6) < len(FACTORS)) for k, b in records):
         return 20
+    return 21 if repeats(waits) or any(cost > COST for _, _, cost in arcs_of(records)) else 0
+
+
+def job_refusal(records):
+    """10 to 13, or 0, of a map that is not refused"""
+    kinds, n = [k for k, _ in records], u16(records[0][1], 0)
     if kinds.count(JOB) != 1 or kinds[-1] != JOB:
         return 10
     body = records[-1][1]
@@ -118,32 +157,25 @@ def refusal(data, words, room, asked=sheet_bytes):
         return 11
     if not 1 <= len(goals) <= GOALS or any(g >= h for g, h in zip(goals, goals[1:])):
         return 12
-    if any(dict(estimates).get(g, 0) for g in goals):
-        return 13
-    if words < 16 * n + 2 * m:
-        return 14
-    return 15 if room < asked(data) else 0
+    return 13 if any(v in goals and h != 0 for v, h in values(records, 3)) else 0
 
 
 def cleared(data, number):
     """how many work words are 0 after the call; no other word changes, and no byte but those that the answer counts"""
-    return 0 if number in ORDER else 16 * u16(data, 4) + 2 * u16(data, 6)
+    return 0 if number in ORDER else words_needed(data)
 
 
 class Problem:
     def __init__(self, data):
         records, _ = frame(data)
-        self.n, self.m = u16(records[0][1], 0), u16(records[0][1], 2)
-        self.h = [0] * self.n
+        self.n = u16(records[0][1], 0)
+        estimates = dict(values(records, 3))
+        self.h = [estimates.get(v, 0) for v in range(self.n)]
         self.out = [[] for _ in range(self.n)]
         self.into = [[] for _ in range(self.n)]
-        for kind, b in records:
-            if is_arc(kind):
-                u, v, c = u16(b, 0), u16(b, 2), cost_of(kind, b)
-                self.out[u].append((v, c))
-                self.into[v].append((u, c))
-            if kind == 3:
-                self.h[u16(b, 0)] = u32(b, 2)
+        for u, v, c in arcs_of(records):
+            self.out[u].append((v, c))
+            self.into[v].append((u, c))
         body = records[-1][1]
         self.start, self.allowance = u16(body, 0), u32(body, 2)
         self.goals = {u16(body, i) for i in range(8, len(body), 2)}
@@ -215,7 +247,12 @@ def route(data, words, room):
 def arc_order(lane):
     """by from, to, cost, kind and the remaining fields"""
     kind, body = lane
-    return u16(body, 0), u16(body, 2), cost_of(kind, body), kind, [u16(body, i) for i in range(4, len(body), 2)]
+    return u16(body, 0), u16(body, 2), lane_cost(kind, body), kind, [u16(body, i) for i in range(4, len(body), 2)]
+
+
+def nonzero(records, kind):
+    """the values other than 0, by place"""
+    return sorted((place, value) for place, value in values(records, kind) if value != 0)
 
 
 def write_map(data, words, room):
@@ -225,6 +262,6 @@ def write_map(data, words, room):
         return (number, 0, 0, 0, 0, 0, 0), b''
     (first, *middle, last), _ = frame(data)
     arcs = sorted((r for r in middle if is_arc(r[0])), key=arc_order)
-    estimates = sorted((u16(b, 0), u32(b, 2)) for kind, b in middle if kind == 3 and u32(b, 2) != 0)
-    out = b''.join([record(*first), *(record(*a) for a in arcs), *(estimate(*e) for e in estimates), record(*last)])
+    estimates, waits = [estimate(*e) for e in nonzero(middle, 3)], [wait(*w) for w in nonzero(middle, 6)]
+    out = b''.join([record(*first), *(record(*a) for a in arcs), *estimates, *waits, record(*last)])
     return (0, 0, 0, 0, 0, 0, len(out)), out

@@ -1,5 +1,5 @@
 /* Runs the exported calls in several threads at once, each on just the stack that r3.h names: the longest route that a map can have, the reading of
- * its sheet, and the writing of its map. Every thread must come to the same answer, which is known. */
+ * its sheet, and the writing of its map, without waits and with them. Every thread must come to the same answer, which is known. */
 #define _DEFAULT_SOURCE
 #include <pthread.h>
 #include <string.h>
@@ -8,9 +8,9 @@
 #include "r3.h"
 
 enum { PLACES = 4096, COST = 65535, THREADS = 4, CALLS = 8, ROUTE_STACK = 320 << 10, SHEET_STACK = 64 << 10, WRITE_STACK = 64 << 10 };
-enum { HEAD = 8, ARC = 10, JOB = 14, INPUT = HEAD + ARC * (PLACES - 1) + JOB };
+enum { HEAD = 8, ARC = 10, WAIT = 8, JOB = 14, INPUT = HEAD + ARC * (PLACES - 1) + WAIT * PLACES + JOB };
 
-static uint8_t input[INPUT];
+static uint8_t input[INPUT], written[INPUT]; /* the map, and what the map writer makes of it */
 static size_t length;
 
 struct Job {
@@ -19,28 +19,33 @@ struct Job {
     int right;
 };
 
-static void put16(uint32_t x)
+static void put16(uint8_t *out, uint32_t x)
 {
-    input[length++] = (uint8_t)x;
-    input[length++] = (uint8_t)(x >> 8);
+    out[length++] = (uint8_t)x;
+    out[length++] = (uint8_t)(x >> 8);
 }
 
-static void put_record(uint32_t kind, const uint32_t *fields, uint32_t count)
+static void put_record(uint8_t *out, uint32_t kind, const uint32_t *fields, uint32_t count)
 {
-    put16(2 * count);
-    put16(kind);
+    put16(out, 2 * count);
+    put16(out, kind);
     for (uint32_t i = 0; i < count; i++)
-        put16(fields[i]);
+        put16(out, fields[i]);
 }
 
-/* one chain through all places, each arc as dear as it may be; the last arc of the chain is the first record */
-static void make_chain(void)
+/* one chain through all places, each arc with its wait as dear as it may be; falling: the last arc stands first, and so does the last wait */
+static void make_chain(uint8_t *out, uint32_t wait, int falling)
 {
     uint32_t allowance = 236 * PLACES;
-    put_record(1, (uint32_t[]){PLACES, PLACES - 1}, 2);
-    for (uint32_t v = PLACES - 1; v-- > 0;)
-        put_record(2, (uint32_t[]){v, v + 1, COST}, 3);
-    put_record(4, (uint32_t[]){0, allowance & 0xffff, allowance >> 16, 1, PLACES - 1}, 5);
+    length = 0;
+    put_record(out, 1, (uint32_t[]){PLACES, PLACES - 1}, 2);
+    for (uint32_t i = 0; i < PLACES - 1; i++) {
+        uint32_t v = falling ? PLACES - 2 - i : i;
+        put_record(out, 2, (uint32_t[]){v, v + 1, COST - wait}, 3);
+    }
+    for (uint32_t i = 0; wait != 0 && i < PLACES; i++)
+        put_record(out, 6, (uint32_t[]){falling ? PLACES - 1 - i : i, wait}, 2);
+    put_record(out, 4, (uint32_t[]){0, allowance & 0xffff, allowance >> 16, 1, PLACES - 1}, 5);
 }
 
 static void *route(void *p)
@@ -69,10 +74,7 @@ static void *write_map(void *p)
     for (int i = 0; i < CALLS; i++) {
         uint32_t answer[7];
         uint32_t number = r3_write_map(input, length, job->work, sizeof job->work / 4, job->output, INPUT, answer, 7);
-        job->right &= number == 0 && answer[6] == INPUT && memcmp(job->output, input, HEAD) == 0;
-        for (size_t at = HEAD, from = INPUT - JOB - ARC; at < INPUT - JOB; at += ARC, from -= ARC) /* the arcs the other way round */
-            job->right &= memcmp(job->output + at, input + from, ARC) == 0;
-        job->right &= memcmp(job->output + INPUT - JOB, input + INPUT - JOB, JOB) == 0;
+        job->right &= number == 0 && answer[6] == length && memcmp(job->output, written, length) == 0;
     }
     return NULL;
 }
@@ -95,10 +97,12 @@ static int run_all(void *(*function)(void *), struct Job *jobs, size_t stack)
     return 1;
 }
 
-int main(void)
+/* all calls on a chain with such a wait at each place: how many threads were right */
+static int count_right(uint32_t wait)
 {
     static struct Job jobs[THREADS];
-    make_chain();
+    make_chain(written, wait, 0);
+    make_chain(input, wait, 1);
     for (int i = 0; i < THREADS; i++) {
         memset(&jobs[i], 0xee, sizeof jobs[i]);
         jobs[i].right = 1;
@@ -106,6 +110,12 @@ int main(void)
     int ran = run_all(route, jobs, ROUTE_STACK) && run_all(read_sheet, jobs, SHEET_STACK) && run_all(write_map, jobs, WRITE_STACK), right = 0;
     for (int i = 0; i < THREADS; i++)
         right += jobs[i].right;
-    printf("threads: %d, right: %d\n", THREADS, right);
-    return !ran || right != THREADS;
+    return ran ? right : 0;
+}
+
+int main(void)
+{
+    int without = count_right(0), with = count_right(5);
+    printf("threads: %d, right: %d without waits, %d with waits\n", THREADS, without, with);
+    return without != THREADS || with != THREADS;
 }

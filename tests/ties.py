@@ -8,9 +8,14 @@ from reference import arc, estimate, head, job
 Tie = namedtuple('Tie', 'data first uncounted')
 
 
+def arcs_along(ways):
+    """a way is its places, with the cost from each to the next"""
+    return [a for way, costs in ways for a in zip(way, way[1:], costs)]
+
+
 def joined(places, ways, goals, start=0, estimates=()):
-    """an input whose arcs are those of the ways; a way is its places, with the cost from each to the next"""
-    arcs = [arc(*a) for way, costs in ways for a in zip(way, way[1:], costs)]
+    """an input whose arcs are those of the ways"""
+    arcs = [arc(*a) for a in arcs_along(ways)]
     return b''.join([head(places, len(arcs)), *arcs, *(estimate(*e) for e in estimates), job(start, 236 * places, goals)])
 
 
@@ -44,10 +49,11 @@ def ties():
 
 def along_a_line(rnd, places):
     """a graph, and how far each place is from its goals: the places lie along a line in any order, some side by side, and an arc costs the way
-    between its ends, now and then one more; so a route of many arcs costs no more than one of few"""
-    at = [0, 1, *(rnd.randrange(3 * places // 4) for _ in range(places - 2))]
+    between its ends with the wait, now and then one more; so a route of many arcs costs no more than one of few"""
+    at = [0, 2, *(2 * rnd.randrange(3 * places // 4) for _ in range(places - 2))]
     rnd.shuffle(at)
-    pairs = [(u, v) for u in range(places) for v in range(places) if at[v] - at[u] in (1, 2, 3, 6)]
-    arcs = [(u, v, at[v] - at[u] + (rnd.random() < 0.1)) for u, v in rnd.choices(pairs, k=3 * places)]
+    waits = {v: 1 for v in range(places) if rnd.random() < 0.5} if rnd.random() < 0.5 else {}
+    pairs = [(u, v) for u in range(places) for v in range(places) if at[v] - at[u] in (2, 4, 6, 12)]
+    arcs = [(u, v, at[v] - at[u] - waits.get(u, 0) + (rnd.random() < 0.1)) for u, v in rnd.choices(pairs, k=3 * places)]
     goals = [v for v in range(places) if at[v] == max(at)]
-    return Graph(places, arcs, goals[:2]), [max(at) - x for x in at]
+    return Graph(places, arcs, goals[:2], waits), [max(at) - x for x in at]

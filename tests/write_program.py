@@ -8,14 +8,16 @@ import sys
 from edges import broken
 from listing import records
 from program import INPUT, WORK, around_longest, chain, longest, some_inputs
-from reference import ORDER, arc, estimate, head, job, measured, write_map
+from reference import ORDER, arc, estimate, head, job, measured, wait, write_map
 from streams import ended, failing, given, report, slow, start, whole
 
 # a map by hand and what is made of it: from before to, to before cost, cost before kind, kind 2 before 5, length before class; a repeat stays, an
-# estimate of 0 goes; numbers are put in order, not their first bytes
+# estimate or a wait of 0 goes; waits stand behind all estimates; numbers are put in order, not their first bytes
 JUMBLED = records('''
     places 300
+    wait at 256 is 1
     estimate at 256 is 1
+    wait at 0 is 0
     arc from 256 to 1 cost 1
     arc from 1 to 256 cost 9
     arc from 1 to 2 cost 256
@@ -26,8 +28,10 @@ JUMBLED = records('''
     arc from 1 to 2 cost 96
     arc from 1 to 2 length 6 class 7
     arc from 1 to 2 length 4 class 1
+    wait at 2 is 65535
     estimate at 2 is 268435455
     arc from 1 to 2 length 255 class 1
+    wait at 1 is 65025
     job start 1 allowance 70800 goals 0 299''')
 WRITTEN = records('''
     places 300
@@ -43,6 +47,9 @@ WRITTEN = records('''
     arc from 256 to 1 cost 1
     estimate at 2 is 268435455
     estimate at 256 is 1
+    wait at 1 is 65025
+    wait at 2 is 65535
+    wait at 256 is 1
     job start 1 allowance 70800 goals 0 299''')
 
 
@@ -60,7 +67,7 @@ def by_hand():
     yield WRITTEN, (WRITTEN, b'')
     yield full, (full, b'')  # takes all 16,384 words
     yield over, (b'', b'14\n')
-    yield head(2, 0) + estimate(0, 0) + estimate(1, 0) + job(1, 0, [0]), (head(2, 0) + job(1, 0, [0]), b'')
+    yield head(2, 0) + estimate(0, 0) + wait(1, 0) + estimate(1, 0) + job(1, 0, [0]), (head(2, 0) + job(1, 0, [0]), b'')
     yield b'', (b'', b'4\n')
     yield bytes(INPUT + 1), (b'', b'too long\n')
 
@@ -71,10 +78,10 @@ def refused():
 
 
 def many_records(rnd):
-    """estimates, most of them 0, and arcs of both kinds, mixed"""
-    estimates = [estimate(v, rnd.choice([0, 0, v])) for v in reversed(range(1, 819))]
+    """estimates and waits, most of them 0, and arcs of both kinds, mixed"""
+    values = [value(v, rnd.choice([0, 0, v])) for v in reversed(range(1, 819)) for value in (estimate, wait)]
     arcs = [rnd.choice([arc(v % 819, v % 7, 1 + v % 99), measured(v % 819, v % 7, 1 + v % 9, v % 8)]) for v in range(1600)]
-    mixed = estimates + arcs
+    mixed = values + arcs
     rnd.shuffle(mixed)
     return head(819, len(arcs)) + b''.join(mixed) + job(0, 9, [0])
 

@@ -27,14 +27,27 @@ Bytes record_of(const Arc &a)
     return r;
 }
 
-bool is_estimate(const Bytes &r)
+// an estimate or a wait
+bool has_value(const Bytes &r)
 {
-    return r[2] == 3;
+    return r[2] == 3 || r[2] == 6;
+}
+
+uint32_t value_of(const Bytes &r)
+{
+    return r[2] == 3 ? plain::u32(&r[6]) : plain::u16(&r[6]);
 }
 
 bool is_zero(const Bytes &r)
 {
-    return is_estimate(r) && plain::u32(&r[6]) == 0;
+    return has_value(r) && value_of(r) == 0;
+}
+
+Bytes record_of(uint8_t kind, uint32_t place, uint32_t value)
+{
+    Bytes r;
+    (kind == 3 ? put_estimate : put_wait)(r, place, value);
+    return r;
 }
 
 // by from, to, cost, kind and the remaining fields
@@ -47,15 +60,15 @@ bool arc_before(const Bytes &r, const Bytes &s)
     return order(r) < order(s);
 }
 
-// head, arcs in order, estimates by place and none twice, job: the same records, but for estimates of 0
+// head, arcs in order, estimates by place and none twice, waits alike, job: the same records, but for estimates and waits of 0
 bool is_written_form(Records records, Records written)
 {
     if (records.size() < 2 || written.size() < 2 || written.front() != records.front() || written.back() != records.back())
         return false;
     auto last = written.end() - 1, arcs = std::find_if_not(written.begin() + 1, last, is_arc);
-    auto place_before = [](const Bytes &r, const Bytes &s) { return plain::u16(&r[4]) < plain::u16(&s[4]); };
-    auto not_rising = [&](const Bytes &r, const Bytes &s) { return !place_before(r, s); };
-    if (!std::is_sorted(written.begin() + 1, arcs, arc_before) || !std::all_of(arcs, last, is_estimate) ||
+    auto kind_and_place = [](const Bytes &r) { return std::tuple(r[2], plain::u16(&r[4])); };
+    auto not_rising = [&](const Bytes &r, const Bytes &s) { return kind_and_place(r) >= kind_and_place(s); };
+    if (!std::is_sorted(written.begin() + 1, arcs, arc_before) || !std::all_of(arcs, last, has_value) ||
         std::adjacent_find(arcs, last, not_rising) != last)
         return false;
     records.erase(std::remove_if(records.begin() + 1, records.end() - 1, is_zero), records.end() - 1);
@@ -224,18 +237,16 @@ class Test {
         return true;
     }
 
-    bool toggle_zero(Records &records)
+    template <uint8_t kind> bool toggle_zero(Records &records)
     {
         uint32_t v = below(map_.places);
-        auto at = estimate_at(records, v);
-        if (at != records.end() && !is_zero(*at)) {
-            v = map_.goals[below(map_.goals.size())];
-            at = estimate_at(records, v);
-        }
+        auto at = record_at(records, kind, v);
+        if (at != records.end() && !is_zero(*at))
+            return false;
         if (at != records.end())
             records.erase(at);
         else
-            add_estimate(records, v, 0);
+            records.insert(somewhere(records), record_of(kind, v, 0));
         return true;
     }
 
@@ -245,8 +256,9 @@ class Test {
         if (at == records.end())
             return false;
         Bytes before = *at;
-        while (*at == before)
+        do
             *at = record_of(another(arc_of(before)));
+        while (*at == before || map_.cost(arc_of(*at)) > 65535);
         return true;
     }
 
@@ -271,20 +283,29 @@ class Test {
     bool change_estimate(Records &records)
     {
         uint32_t v = below(map_.places);
-        if (std::binary_search(map_.goals.begin(), map_.goals.end(), v))
-            return false;
-        auto at = estimate_at(records, v);
-        uint32_t before = 0, now = 1 + below(largest_estimate);
+        return !std::binary_search(map_.goals.begin(), map_.goals.end(), v) && change_value(records, 3, v, largest_estimate);
+    }
+
+    bool change_wait(Records &records)
+    {
+        uint32_t v = below(map_.places), longest = Maps::longest_waits(map_)[v];
+        return longest != 0 && change_value(records, 6, v, longest);
+    }
+
+    bool change_value(Records &records, uint8_t kind, uint32_t v, uint32_t largest)
+    {
+        auto at = record_at(records, kind, v);
+        uint32_t before = 0, now = 1 + below(largest);
         if (at != records.end()) {
-            before = plain::u32(&(*at)[6]);
+            before = value_of(*at);
             records.erase(at);
         }
         if (before != 0 && below(2) == 0)
             now = 0;
         else if (below(2) == 0 || now == before)
-            now = before == largest_estimate ? before - 1 : before + 1;
+            now = before == largest ? before - 1 : before + 1;
         if (now != 0 || below(2) == 0)
-            add_estimate(records, v, now);
+            records.insert(somewhere(records), record_of(kind, v, now));
         return true;
     }
 
@@ -342,16 +363,9 @@ class Test {
         return at != records.end() ? at : std::find_if(records.begin(), records.end(), is_arc);
     }
 
-    static Records::iterator estimate_at(Records &records, uint32_t place)
+    static Records::iterator record_at(Records &records, uint8_t kind, uint32_t place)
     {
-        return std::find_if(records.begin(), records.end(), [&](const Bytes &r) { return is_estimate(r) && plain::u16(&r[4]) == place; });
-    }
-
-    void add_estimate(Records &records, uint32_t place, uint32_t estimate)
-    {
-        Bytes r;
-        put_estimate(r, place, estimate);
-        records.insert(somewhere(records), r);
+        return std::find_if(records.begin(), records.end(), [&](const Bytes &r) { return r[2] == kind && plain::u16(&r[4]) == place; });
     }
 
     Maps maps_;
@@ -360,18 +374,20 @@ class Test {
     Comparison<Writing> comparison_;
     Area<uint8_t> sheet_{R3_BYTES + 1};
     Area<uint32_t> work_{R3_WORDS + 1}, answer_{7};
-    Tally<uint32_t> answers_{"writer: answers", {0, 1, 2, 3, 4, 5, 6, 7, 8, 9, 20, 10, 11, 12, 13, 14, 15}};
+    Tally<uint32_t> answers_{"writer: answers", {0, 1, 2, 3, 4, 5, 6, 7, 8, 9, 20, 21, 10, 11, 12, 13, 14, 15}};
     Tally<uint32_t> routes_{"writer: routes", {0, 14, 15, 16, 17}};
     Tally<std::string> made_{"writer: changes", change_names()};
 };
 
 const std::vector<Test::Change> Test::changes = {
     {"shuffled", true, &Test::shuffle},
-    {"estimate of 0 put in or left out", true, &Test::toggle_zero},
+    {"estimate of 0 put in or left out", true, &Test::toggle_zero<3>},
+    {"wait of 0 put in or left out", true, &Test::toggle_zero<6>},
     {"lane changed", false, &Test::change_lane},
     {"lane dropped", false, &Test::drop_lane},
     {"lane doubled", false, &Test::double_lane},
     {"estimate changed", false, &Test::change_estimate},
+    {"wait changed", false, &Test::change_wait},
     {"place added", false, &Test::add_place},
     {"job changed", false, &Test::change_job},
 };

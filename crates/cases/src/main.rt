@@ -11,7 +11,7 @@ ghost use Prim.Native.Nat.{_≤_};
 ghost use lib.ListN.{length};
 
 // The largest case, and a bound on the number of cases.
-const INPUT: usize = 262144;
+const INPUT: usize = 524288;
 
 const WORK: usize = 98400;
 

@@ -3,8 +3,8 @@ use mathlib.Core.Path.{_≡_}
 use mathlib.Core.Logic.{_⊎_, inl, inr}
 use mathlib.Core.Bool.{true}
 use mathlib.Core.List.{List}
-use Prim.Native.Nat.{ℕ, _≤_}
-use native.Mathlib.Decide.{ℕ-discrete}
+use Prim.Native.Nat.{ℕ, _≤_, _<_}
+use native.Mathlib.Decide.{decLt}
 use native.Mathlib.Omega.{arith}
 use lib.ListN.{length, replicate}
 use borrow.Author.Tests.{le-leb, lt-leb, ne-eqb}
@@ -37,18 +37,31 @@ module _ (n : ℕ) where
         le-leb n 19 m,
       )
 
-  red-later : n ≡ 20 → Red ≡ lampOf n
+  red-later : 20 ≤ n → n ≤ 21 → Red ≡ lampOf n
   unfolding lampOf
-  red-later e = rw e
+  red-later l m =
+      rw (
+        ne-eqb n 0 (λ e. omega arith),
+        le-leb 1 n (omega arith),
+        lt-leb n 13 (omega arith),
+        le-leb 14 n (omega arith),
+        lt-leb n 15 (omega arith),
+        ne-eqb n 16 (λ e. omega arith),
+        ne-eqb n 17 (λ e. omega arith),
+        le-leb 18 n (omega arith),
+        lt-leb n 19 (omega arith),
+        le-leb 20 n l,
+        le-leb n 21 m,
+      )
 
-  pub red-high : 18 ≤ n → n ≤ 20 → Red ≡ lampOf n
-  red-high l m = go (ℕ-discrete n 20)
+  pub red-high : 18 ≤ n → n ≤ 21 → Red ≡ lampOf n
+  red-high l m = go (decLt n 20)
     where
-      go : Dec (n ≡ 20) → Red ≡ lampOf n
-      go (yes e) = red-later e
-      go (no h) = red-sheet l (omega arith)
+      go : Dec (n < 20) → Red ≡ lampOf n
+      go (yes h) = red-sheet l (omega arith)
+      go (no h) = red-later (omega arith) m
 
-  pub dark : 21 ≤ n → Dark ≡ lampOf n
+  pub dark : 22 ≤ n → Dark ≡ lampOf n
   unfolding lampOf
   dark l =
       rw (
@@ -61,7 +74,8 @@ module _ (n : ℕ) where
         ne-eqb n 17 (λ e. omega arith),
         le-leb 18 n (omega arith),
         lt-leb n 19 (omega arith),
-        ne-eqb n 20 (λ e. omega arith),
+        le-leb 20 n (omega arith),
+        lt-leb n 21 (omega arith),
       )
 
 module _ (r : Reading) (light : Lamp) (is : light ≡ lampOf (r .number)) where

@@ -3,7 +3,7 @@ use mathlib.Core.Path.{_≡_, refl, ap₂, sym, _∙_}
 use mathlib.Core.Bool.{Bool, true, false, cond, not, _||_, or-false, or-assoc, true≢false}
 use mathlib.Core.List.{List, [], _∷_, _++_, map-append, append-nil, headD}
 use mathlib.Core.Option.{Option, none, some}
-use Prim.Native.Nat.{ℕ, suc, _+_, _<_}
+use Prim.Native.Nat.{ℕ, suc, _<_}
 use native.Mathlib.Omega.{arith}
 use lib.Dec.{ltb, leb, eqb}
 use lib.ListN.{length}
@@ -14,15 +14,14 @@ use Rattle.model.specs.Stated.{noSize}
 use Rattle.model.specs.Refusals.{row}
 use Rattle.model.proofs.Tests.{any-filterMap-append, filterMap-append, any-append, or-swap, repeats-snoc}
 use Rattle.judge.proofs.NumberLaws.{Joined, none as end, more}
-use Rattle.judge.proofs.MarkLaws.{placesIn}
 use Rattle.map.specs.declared.record as declared
 use Rattle.map.specs.declared.record.Item.{Item}
-use Rattle.map.specs.declared.record.Item.the-variants.{Head, Lane, Measured, Estimate, Job, Misfit, Other}
+use Rattle.map.specs.declared.record.Item.the-variants.{Head, Lane, Measured, Estimate, Wait, Job, Misfit, Other}
 use Rattle.map.specs.Items.{isMisfit, meant}
 use Rattle.model.specs.Items as model
 use Rattle.model.specs.Limits.{maxEstimate}
 use Rattle.model.specs.Lists.{any, isGiven, consIf, filterMap, member, repeats}
-use Rattle.model.specs.Refusals.{Row, outsideMap, isFree, freeArc, largeEstimate, twoEstimates, mismeasured, wrongMeasure, mapRows}
+use Rattle.model.specs.Refusals.{Row, placesIn, namesOutside, outsideMap, isFree, freeArc, largeEstimate, twoEstimates, mismeasured, wrongMeasure, mapRows}
 use Rattle.model.specs.Refusals.{beginsWithHead, wrongHead, endsWithJob}
 use Rattle.model.specs.Stated.{statedBy}
 
@@ -104,6 +103,7 @@ isOther (Head z) = false
 isOther (Lane l) = false
 isOther (Measured l) = false
 isOther (Estimate e) = false
+isOther (Wait w) = false
 isOther (Job j) = false
 isOther Misfit = false
 isOther Other = true
@@ -121,7 +121,7 @@ own unknown misfit first n places j =
     ∷ row 6 (outsideMap s)
     ∷ row 7 (freeArc s)
     ∷ row 8 (largeEstimate s)
-    ∷ row 9 (any (λ (e : model.Estimate). member (e .place) places) (s .estimates))
+    ∷ row 9 (any (λ (e : model.PlaceValue). member (e .place) places) (s .estimates))
     ∷ row 20 (wrongMeasure s)
     ∷ []
 
@@ -135,27 +135,33 @@ stray-snoc (i ∷ is) j =
 twice-snoc : (is : List model.Item) (j : model.Item)
     → repeats (placesIn (filterMap model.estimateIn (is ++ (j ∷ []))))
     ≡ (repeats (placesIn (filterMap model.estimateIn is))
-    || any (λ (e : model.Estimate). member (e .place) (placesIn (filterMap model.estimateIn is))) (filterMap model.estimateIn (j ∷ [])))
+    || any (λ (e : model.PlaceValue). member (e .place) (placesIn (filterMap model.estimateIn is))) (filterMap model.estimateIn (j ∷ [])))
 unfolding filterMap consIf any
 twice-snoc is j = rw (filterMap-append model.estimateIn is (j ∷ [])) (go (model.estimateIn j))
   where
-    es : List model.Estimate
+    es : List model.PlaceValue
     es = filterMap model.estimateIn is
 
-    go : (o : Option model.Estimate) → repeats (placesIn (es ++ consIf o []))
-        ≡ (repeats (placesIn es) || any (λ (e : model.Estimate). member (e .place) (placesIn es)) (consIf o []))
+    go : (o : Option model.PlaceValue) → repeats (placesIn (es ++ consIf o []))
+        ≡ (repeats (placesIn es) || any (λ (e : model.PlaceValue). member (e .place) (placesIn es)) (consIf o []))
     go none = rw (append-nil es) (sym (or-false (repeats (placesIn es))))
     go (some e) =
         let place = e .place in
-        rw (map-append (λ (e : model.Estimate). e .place) es (e ∷ []), repeats-snoc (placesIn es) place, or-false (member place (placesIn es)))
+        rw (map-append (λ (e : model.PlaceValue). e .place) es (e ∷ []), repeats-snoc (placesIn es) place, or-false (member place (placesIn es)))
+
+or-joined : {x y : Bool} (a b c d : Bool) → x ≡ (a || b) → y ≡ (c || d) → (x || y) ≡ ((a || c) || (b || d))
+or-joined a b c d p q = ap₂ (λ (x y : Bool). x || y) p q ∙ or-swap a b c d
 
 outside-snoc : (n : ℕ) (is : List model.Item) (j : model.Item)
     → outsideMap (placed n (statedBy (is ++ (j ∷ []))))
     ≡ (outsideMap (placed n (statedBy is)) || outsideMap (placed n (statedBy (j ∷ []))))
 unfolding placed statedBy outsideMap
 outside-snoc n is j =
-    ap₂ (λ (a b : Bool). a || b) (any-filterMap-append model.laneIn _ is (j ∷ [])) (any-filterMap-append model.estimateIn _ is (j ∷ []))
-    ∙ or-swap (any _ (filterMap model.laneIn is)) (any _ (filterMap model.laneIn (j ∷ []))) _ _
+    let lanes = any (λ (l : model.Lane). leb n (l .from) || leb n (l .to)) (filterMap model.laneIn is) in
+    let estimates = namesOutside n (filterMap model.estimateIn is) in
+    or-joined (lanes || estimates) _ (namesOutside n (filterMap model.waitIn is)) _
+    (or-joined lanes _ estimates _ (any-filterMap-append model.laneIn _ is (j ∷ [])) (any-filterMap-append model.estimateIn _ is (j ∷ [])))
+    (any-filterMap-append model.waitIn _ is (j ∷ []))
 
 pub joined : (U W u w : Bool) (n : ℕ) (is : List model.Item) (j : model.Item)
     → Joined noNumber 1 (itemRows U W n is) (own u w (eqb (length is) 0) n (placesIn (filterMap model.estimateIn is)) j)
@@ -174,14 +180,14 @@ joined U W u w n is j =
 -- an estimate's place has an estimate already
 abbrev pub Again : Bool → ℕ → List ℕ → Bool → Item → Type 0
 Again first n places again i =
-    (e : declared.Estimate.Estimate) → i ≡ Estimate e → first ≡ false → e .place < n → again ≡ member (e .place) places
+    (e : declared.PlaceValue.PlaceValue) → i ≡ Estimate e → first ≡ false → e .place < n → again ≡ member (e .place) places
 
 -- what an item is given is the number of the conditions that it meets
 pub own-given : (input : List ℕ) (first : Bool) (n : ℕ) (places : List ℕ) (again : Bool) (i : Item) → Again first n places again i
     → numberOr noNumber (own (isOther i) (isMisfit i) first n places (meant input i)) ≡ given first n again i
 unfolding numberOr own strayAt isOther isMisfit meant given placed statedBy outsideMap freeArc isFree
     largeEstimate wrongMeasure mismeasured
-    filterMap consIf any isGiven model.sizeIn model.laneIn model.estimateIn model.jobIn
+    filterMap consIf any isGiven model.sizeIn model.laneIn model.estimateIn model.waitIn model.jobIn
 own-given input true n places again (Head z) h = refl
 own-given input false n places again (Head z) h = refl
 own-given input true n places again (Lane l) h = refl
@@ -196,6 +202,8 @@ own-given input false n places again (Estimate e) h = simp or-false (go (leb n (
         ≡ cond t 6 (cond (ltb maxEstimate (e .value)) 8 (cond again 9 noNumber))
     go true f = refl
     go false f = rw (h e refl refl (leb-false n (e .place) f))
+own-given input true n places again (Wait w) h = refl
+own-given input false n places again (Wait w) h = simp or-false
 own-given input true n places again (Job j) h = refl
 own-given input false n places again (Job j) h = refl
 own-given input true n places again Misfit h = refl
@@ -210,6 +218,7 @@ given-first n m a b (Head z) = refl
 given-first n m a b (Lane l) = refl
 given-first n m a b (Measured l) = refl
 given-first n m a b (Estimate e) = refl
+given-first n m a b (Wait w) = refl
 given-first n m a b (Job j) = refl
 given-first n m a b Misfit = refl
 given-first n m a b Other = refl

@@ -1,19 +1,18 @@
--- The judgement up to the one job. Assumes nothing.
+-- The judgement up to the costs of arcs. Assumes nothing.
 use mathlib.Core.Path.{_≡_, refl, ap, sym, _∙_}
 use mathlib.Core.Bool.{Bool, true, false, cond, not, _||_, or-true}
 use mathlib.Core.List.{List, _++_}
 use mathlib.Core.Logic.{_≢_}
-use Prim.Native.Nat.{ℕ, zero, suc, _≤_, _<_}
+use Prim.Native.Nat.{ℕ, _≤_, _<_}
 use native.Mathlib.Omega.{arith}
 use lib.Dec.{ltb, eqb}
-use lib.ListN.{getD, replicate}
-use borrow.Author.Tests.{not-false, eqb-true, eq-eqb, ne-eqb}
+use borrow.Author.Tests.{eq-eqb, ne-eqb}
 use Rattle.judge.specs.declared.Judgement.the-variants.{Refused}
 use Rattle.judge.specs.declared.survey.Survey.{Survey}
 use Rattle.judge.specs.Judge.{Judged}
 use Rattle.judge.specs.Numbers.{noNumber, numberOr}
 use Rattle.judge.specs.Survey.{fewPlaces, placed, Surveyed}
-use Rattle.judge.specs.Verdict.{Formed, OneJob}
+use Rattle.judge.specs.Verdict.{Formed, RightMap}
 use Rattle.judge.proofs.NumberLaws.{number-from, number-early, number-late, number-some, number-none, first-given, none-given}
 use Rattle.map.specs.declared.Map.{Map}
 use Rattle.map.specs.Sizes.{outOfRange}
@@ -22,7 +21,7 @@ use Rattle.model.specs.Framing.{Record, frame}
 use Rattle.model.specs.Items.{items}
 use Rattle.model.specs.Limits.{maxPlaces, maxArcs}
 use Rattle.model.specs.Lists.{any}
-use Rattle.model.specs.Refusals.{Row, wrongSize, wrongJob, formRows, sizeRows, mapRows, jobRows, firstThatHolds, firstOf, inputRefusal}
+use Rattle.model.specs.Refusals.{Row, wrongSize, formRows, sizeRows, mapRows, costRows, jobRows, firstThatHolds, firstOf, inputRefusal}
 use Rattle.model.specs.Stated.{Stated, stated, statedIn}
 use Rattle.model.proofs.Lists.{neither}
 use Rattle.model.proofs.Rows.{input-groups}
@@ -34,11 +33,6 @@ refused input n e h =
       some-number = λ m f. let same : n ≡ m = cc in omega (arith, h);
       states = λ j f. let z : _≡_ {A = ℕ} 0 1 = cc in absurd (omega arith);
     }
-
-pub zeros-clear : (n v : ℕ) → _≡_ {A = ℕ} (getD (replicate n 0) v 0) 0
-zeros-clear zero v = refl
-zeros-clear (suc n) zero = refl
-zeros-clear (suc n) (suc v) = zeros-clear n v
 
 map-above : (s : Stated) → 6 ≤ numberOr noNumber (mapRows s)
 unfolding mapRows any
@@ -83,8 +77,11 @@ module _ (input marks : List ℕ) (s : Survey) (f : Formed input marks s) where
   abbrev st : Stated
   st = stated rs
 
-  after-form : inputRefusal (frame input)
-      ≡ firstOf (firstThatHolds (sizeRows st)) (firstOf (firstThatHolds (mapRows st)) (firstThatHolds (jobRows (items rs) st)))
+  -- what comes after 20
+  abbrev later : ℕ
+  later = firstOf (firstThatHolds (costRows st)) (firstThatHolds (jobRows (items rs) st))
+
+  after-form : inputRefusal (frame input) ≡ firstOf (firstThatHolds (sizeRows st)) (firstOf (firstThatHolds (mapRows st)) later)
   after-form = input-groups (frame input) ∙ none-given _ _ (f .form)
 
   -- 5
@@ -108,7 +105,7 @@ module _ (input marks : List ℕ) (s : Survey) (f : Formed input marks s) where
     pub arcs-refused : map .arcs ≢ s .lanes → Judged input (Refused 5)
     arcs-refused h = size-refused (rw (w .in-range, ne-eqb (s .arcs) (s .lanes) λ e. h (w .arcs ∙ e)))
 
-    -- 6 to 9, 20 and 10
+    -- 6 to 9 and 20
     module _ (counted : map .arcs ≡ s .lanes) where
       right-size : wrongSize st ≡ false
       right-size = sym size-same ∙ rw (w .in-range, eq-eqb (s .arcs) (s .lanes) (sym (w .arcs) ∙ counted))
@@ -119,7 +116,7 @@ module _ (input marks : List ℕ) (s : Survey) (f : Formed input marks s) where
           let few = neither (ltb (st .size .places) 1) _ (neither _ _ (neither _ _ right-size .0) .0) .1 in
           f .states .places ∙ ap (λ (t : Bool). cond t 0 (st .size .places)) few
 
-      after-size : inputRefusal (frame input) ≡ firstOf (firstThatHolds (mapRows st)) (firstThatHolds (jobRows (items rs) st))
+      after-size : inputRefusal (frame input) ≡ firstOf (firstThatHolds (mapRows st)) later
       unfolding sizeRows firstThatHolds
       after-size = after-form ∙ none-given _ _ (rw right-size)
 
@@ -133,31 +130,15 @@ module _ (input marks : List ℕ) (s : Survey) (f : Formed input marks s) where
           let first = number-some noNumber (mapRows st) (λ e. h (number-same ∙ e)) ∙ sym number-same in
           refused input (s .number) (after-size ∙ first-given _ _ (s .number) first positive) positive
 
-      module _ (none : s .number ≡ noNumber) where
-        after-map : inputRefusal (frame input) ≡ firstThatHolds (jobRows (items rs) st)
-        unfolding mapRows any
-        after-map = after-size ∙ none-given _ _ (number-none noNumber (mapRows st) refl (sym number-same ∙ none))
-
-        job-same : (not (eqb (s .jobs) 1) || not (s .«job_last»)) ≡ wrongJob (items rs)
-        unfolding wrongJob
-        job-same = rw (f .states .jobs, f .states .job-last)
-
-        pub job-refused : (not (eqb (s .jobs) 1) || not (s .«job_last»)) ≡ true → Judged input (Refused 10)
-        unfolding jobRows firstThatHolds
-        job-refused e =
-            let wrong : wrongJob (items rs) ≡ true = sym job-same ∙ e in
-            refused input 10 (after-map ∙ rw wrong) (λ z. omega arith)
-
-        pub one-job : (not (eqb (s .jobs) 1) || not (s .«job_last»)) ≡ false → OneJob input marks s
-        one-job e =
-            let parts = neither (not (eqb (s .jobs) 1)) _ e in
-            record {
-              places = places-same;
-              few = omega (arith, w .few-places, w .places);
-              arcs = f .states .arcs;
-              job = f .states .job (eqb-true _ _ (not-false _ (parts .0)));
-              goals-end = f .states .goals-end (not-false _ (parts .1));
-              estimated = f .states .estimated;
-              right = sym job-same ∙ e;
-              number = after-map;
-            }
+      pub right-map : s .number ≡ noNumber → RightMap input marks s
+      unfolding mapRows any
+      right-map none =
+          let right = number-none noNumber (mapRows st) refl (sym number-same ∙ none) in
+          record {
+            form = f .form;
+            map = right;
+            places = places-same;
+            few = omega (arith, w .few-places, w .places);
+            states = f .states;
+            number = after-size ∙ none-given _ _ right;
+          }

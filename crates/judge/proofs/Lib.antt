@@ -4,7 +4,9 @@ pub mod MarkLaws
 pub mod ItemLaws
 pub mod SurveyLaws
 pub mod WalkLaws
+pub mod WaitLaws
 pub mod GoalLaws
 pub mod JudgeMap
+pub mod JudgeCosts
 pub mod JudgeJob
 pub mod Passing

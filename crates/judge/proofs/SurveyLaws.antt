@@ -10,23 +10,23 @@ use lib.ListN.{length, getD, length-append, length-map}
 use borrow.Author.Tests.{ltb-false, eqb-true, ne-eqb}
 use Rattle.judge.specs.declared.survey.Survey.{Survey}
 use Rattle.judge.specs.Numbers.{noNumber, numberOr}
-use Rattle.judge.specs.Marks.{firstMark}
-use Rattle.judge.specs.Survey.{given, fewPlaces, passed, opened, withHead, withLane, withJob, noted, againIn, marksBy, Noted}
+use Rattle.judge.specs.Marks.{markOf, firstMark}
+use Rattle.judge.specs.Survey.{given, fewPlaces, passed, opened, withHead, withLane, withWait, withJob, noted, againIn, marksBy, Noted}
 use Rattle.judge.specs.Survey.{saidOf, said, opening, sizeOr, stray, jobOr, placed, itemRows, Notes}
 use Rattle.model.proofs.Tests.{any-append, filterMap-append}
 use Rattle.judge.proofs.NumberLaws.{joined-least}
-use Rattle.judge.proofs.MarkLaws.{placesIn, marked-length, marked-member, marked-after}
+use Rattle.judge.proofs.MarkLaws.{mark-positive, marked-length, marked-member, marked-after}
 use Rattle.judge.proofs.ItemLaws.{ends-snoc, last-snoc, isOther, joined, Again, own-given, given-first}
 use Rattle.map.specs.declared.record as declared
 use Rattle.map.specs.declared.record.Item.{Item}
-use Rattle.map.specs.declared.record.Item.the-variants.{Head, Lane, Measured, Estimate, Job, Misfit, Other}
+use Rattle.map.specs.declared.record.Item.the-variants.{Head, Lane, Measured, Estimate, Wait, Job, Misfit, Other}
 use Rattle.map.specs.Records.{recordIn}
 use Rattle.map.specs.Items.{isMisfit, jobOf, meant, Says}
 use Rattle.model.specs.Framing.{Record}
 use Rattle.model.specs.Items as model
 use Rattle.model.specs.Limits.{maxPlaces}
 use Rattle.model.specs.Lists.{any, isGiven, consIf, filterMap, repeats}
-use Rattle.model.specs.Refusals.{Row, unknownKind, wrongLength, outsideMap, freeArc, largeEstimate, twoEstimates, wrongMeasure, mapRows}
+use Rattle.model.specs.Refusals.{Row, placesIn, unknownKind, wrongLength, outsideMap, freeArc, largeEstimate, twoEstimates, wrongMeasure, mapRows}
 use Rattle.model.specs.Stated.{statedBy}
 
 -- ---- What a record says
@@ -37,6 +37,7 @@ nothing-meant input (Head z) e = absurd (false≢true e)
 nothing-meant input (Lane l) e = absurd (false≢true e)
 nothing-meant input (Measured l) e = absurd (false≢true e)
 nothing-meant input (Estimate e) f = absurd (false≢true f)
+nothing-meant input (Wait w) e = absurd (false≢true e)
 nothing-meant input (Job j) e = absurd (false≢true e)
 nothing-meant input Misfit e = refl
 nothing-meant input Other e = absurd (false≢true e)
@@ -72,6 +73,7 @@ module _ (input : List ℕ) (r : declared.Record.Record) (i : Item) (says : Says
       go (Lane l) e f = rw (f refl)
       go (Measured l) e f = rw (f refl)
       go (Estimate x) e f = rw (f refl)
+      go (Wait w) e f = rw (f refl)
       go (Job j) e f = rw (f refl)
       go Misfit e f = rw (misfit-known whole e)
       go Other e f = rw (f refl)
@@ -84,7 +86,7 @@ either f false a b x e g = g
 
 module _ (input : List ℕ) (again : Bool) (s : Survey) where
   noted-number : (i : Item) → noted again s i .number ≡ min (s .number) (given (eqb (s .records) 0) (s .places) again i)
-  unfolding noted given withHead withLane withJob
+  unfolding noted given withHead withLane withWait withJob
   noted-number (Head z) = go (eqb (s .records) 0)
     where
       go : (t : Bool) → cond t (opened (passed s noNumber) z) (passed s 4) .number ≡ min (s .number) (cond t noNumber 4)
@@ -93,56 +95,73 @@ module _ (input : List ℕ) (again : Bool) (s : Survey) where
   noted-number (Lane l) = refl
   noted-number (Measured l) = refl
   noted-number (Estimate e) = refl
+  noted-number (Wait w) = refl
   noted-number (Job j) = refl
   noted-number Misfit = refl
   noted-number Other = refl
 
   noted-records : (i : Item) → noted again s i .records ≡ s .records + 1
-  unfolding noted withHead withLane withJob
+  unfolding noted withHead withLane withWait withJob
   noted-records (Head z) = either (λ t. t .records) (eqb (s .records) 0) _ _ _ refl refl
   noted-records (Lane l) = refl
   noted-records (Measured l) = refl
   noted-records (Estimate e) = refl
+  noted-records (Wait w) = refl
   noted-records (Job j) = refl
   noted-records Misfit = refl
   noted-records Other = refl
 
   noted-lanes : (i : Item) → noted again s i .lanes ≡ s .lanes + length (filterMap model.laneIn (meant input i ∷ []))
-  unfolding noted withHead withLane withJob meant filterMap consIf model.laneIn
+  unfolding noted withHead withLane withWait withJob meant filterMap consIf model.laneIn
   noted-lanes (Head z) = either (λ t. t .lanes) (eqb (s .records) 0) _ _ _ (omega arith) (omega arith)
   noted-lanes (Lane l) = refl
   noted-lanes (Measured l) = refl
   noted-lanes (Estimate e) = omega arith
+  noted-lanes (Wait w) = omega arith
   noted-lanes (Job j) = omega arith
   noted-lanes Misfit = omega arith
   noted-lanes Other = omega arith
 
+  noted-waits : (i : Item) → noted again s i .waits ≡ s .waits + length (filterMap model.waitIn (meant input i ∷ []))
+  unfolding noted withHead withLane withWait withJob meant filterMap consIf model.waitIn
+  noted-waits (Head z) = either (λ t. t .waits) (eqb (s .records) 0) _ _ _ (omega arith) (omega arith)
+  noted-waits (Lane l) = omega arith
+  noted-waits (Measured l) = omega arith
+  noted-waits (Estimate e) = omega arith
+  noted-waits (Wait w) = refl
+  noted-waits (Job j) = omega arith
+  noted-waits Misfit = omega arith
+  noted-waits Other = omega arith
+
   noted-jobs : (i : Item) → noted again s i .jobs ≡ s .jobs + length (filterMap model.jobIn (meant input i ∷ []))
-  unfolding noted withHead withLane withJob meant filterMap consIf model.jobIn
+  unfolding noted withHead withLane withWait withJob meant filterMap consIf model.jobIn
   noted-jobs (Head z) = either (λ t. t .jobs) (eqb (s .records) 0) _ _ _ (omega arith) (omega arith)
   noted-jobs (Lane l) = omega arith
   noted-jobs (Measured l) = omega arith
   noted-jobs (Estimate e) = omega arith
+  noted-jobs (Wait w) = omega arith
   noted-jobs (Job j) = refl
   noted-jobs Misfit = omega arith
   noted-jobs Other = omega arith
 
   noted-last : (i : Item) → noted again s i .«job_last» ≡ isGiven (model.jobIn (meant input i))
-  unfolding noted withHead withLane withJob meant model.jobIn isGiven
+  unfolding noted withHead withLane withWait withJob meant model.jobIn isGiven
   noted-last (Head z) = either (λ t. t .«job_last») (eqb (s .records) 0) _ _ _ refl refl
   noted-last (Lane l) = refl
   noted-last (Measured l) = refl
   noted-last (Estimate e) = refl
+  noted-last (Wait w) = refl
   noted-last (Job j) = refl
   noted-last Misfit = refl
   noted-last Other = refl
 
   noted-job : (i : Item) → jobOf input (noted again s i .job) ≡ jobOr (jobOf input (s .job)) (model.jobIn (meant input i))
-  unfolding noted withHead withLane withJob meant model.jobIn
+  unfolding noted withHead withLane withWait withJob meant model.jobIn
   noted-job (Head z) = either (λ t. jobOf input (t .job)) (eqb (s .records) 0) _ _ _ refl refl
   noted-job (Lane l) = refl
   noted-job (Measured l) = refl
   noted-job (Estimate e) = refl
+  noted-job (Wait w) = refl
   noted-job (Job j) = refl
   noted-job Misfit = refl
   noted-job Other = refl
@@ -151,21 +170,23 @@ module _ (input : List ℕ) (again : Bool) (s : Survey) where
   noted-opens : s .records ≡ 0 → s .places ≡ 0 → s .arcs ≡ 0 → (i : Item)
       → (noted again s i .places ≡ fewPlaces (sizeOr (model.sizeIn (meant input i)) .places))
       × (noted again s i .arcs ≡ sizeOr (model.sizeIn (meant input i)) .arcs)
-  unfolding noted withHead withLane withJob meant model.sizeIn
+  unfolding noted withHead withLane withWait withJob meant model.sizeIn
   noted-opens first p a (Head z) = rw first (refl, refl)
   noted-opens first p a (Lane l) = (p, a)
   noted-opens first p a (Measured l) = (p, a)
   noted-opens first p a (Estimate e) = (p, a)
+  noted-opens first p a (Wait w) = (p, a)
   noted-opens first p a (Job j) = (p, a)
   noted-opens first p a Misfit = (p, a)
   noted-opens first p a Other = (p, a)
 
   noted-keeps : eqb (s .records) 0 ≡ false → (i : Item) → (noted again s i .places ≡ s .places) × (noted again s i .arcs ≡ s .arcs)
-  unfolding noted withHead withLane withJob
+  unfolding noted withHead withLane withWait withJob
   noted-keeps later (Head z) = rw later (refl, refl)
   noted-keeps later (Lane l) = (refl, refl)
   noted-keeps later (Measured l) = (refl, refl)
   noted-keeps later (Estimate e) = (refl, refl)
+  noted-keeps later (Wait w) = (refl, refl)
   noted-keeps later (Job j) = (refl, refl)
   noted-keeps later Misfit = (refl, refl)
   noted-keeps later Other = (refl, refl)
@@ -175,7 +196,8 @@ unfolding marksBy
 marks-length n m (Head z) = refl
 marks-length n m (Lane l) = refl
 marks-length n m (Measured l) = refl
-marks-length n m (Estimate e) = marked-length n m (e .place) (e .value)
+marks-length n m (Estimate e) = marked-length markOf n m (e .place) (e .value)
+marks-length n m (Wait w) = refl
 marks-length n m (Job j) = refl
 marks-length n m Misfit = refl
 marks-length n m Other = refl
@@ -197,7 +219,7 @@ module _ (input : List ℕ) (rs : List Record) (m : List ℕ) (s : Survey) (note
   abbrev is : List model.Item
   is = said rs
 
-  abbrev es : List model.Estimate
+  abbrev es : List model.PlaceValue
   es = filterMap model.estimateIn is
 
   pub count : length is ≡ s .records
@@ -217,12 +239,12 @@ module _ (input : List ℕ) (rs : List Record) (m : List ℕ) (s : Survey) (note
   -- the marks with one item more
   noted-marks : (again : Bool) (i : Item) (v : ℕ)
       → getD (marksBy (s .places) m i) v 0
-      ≡ cond (ltb v (noted again s i .places)) (firstMark (es ++ filterMap model.estimateIn (meant input i ∷ [])) v) 0
-  unfolding marksBy noted withHead withLane withJob meant filterMap consIf model.estimateIn said firstMark
+      ≡ cond (ltb v (noted again s i .places)) (firstMark markOf (es ++ filterMap model.estimateIn (meant input i ∷ [])) v) 0
+  unfolding marksBy noted withHead withLane withWait withJob meant filterMap consIf model.estimateIn said firstMark
   noted-marks again (Head z) v = rw (append-nil es) (go (eqb (s .records) 0) refl)
     where
       go : (t : Bool) → eqb (s .records) 0 ≡ t
-          → getD m v 0 ≡ cond (ltb v (cond t (opened (passed s noNumber) z) (passed s 4) .places)) (firstMark es v) 0
+          → getD m v 0 ≡ cond (ltb v (cond t (opened (passed s noNumber) z) (passed s 4) .places)) (firstMark markOf es v) 0
       go true e =
           let none : es ≡ [] = ap (λ (rs : List Record). filterMap model.estimateIn (said rs)) (none-yet e) in
           let clear : getD m v 0 ≡ 0 = notes .mark v ∙ rw none (nothing-yet (ltb v (s .places))) in
@@ -230,14 +252,17 @@ module _ (input : List ℕ) (rs : List Record) (m : List ℕ) (s : Survey) (note
       go false e = notes .mark v
   noted-marks again (Lane l) v = rw (append-nil es) (notes .mark v)
   noted-marks again (Measured l) v = rw (append-nil es) (notes .mark v)
-  noted-marks again (Estimate e) v = marked-after (s .places) es m (notes .mark) marks-room (record { place = e .place; value = e .value }) v
+  noted-marks again (Estimate e) v =
+      let x : model.PlaceValue = record { place = e .place; value = e .value } in
+      marked-after markOf mark-positive (s .places) es m (notes .mark) marks-room x v
+  noted-marks again (Wait w) v = rw (append-nil es) (notes .mark v)
   noted-marks again (Job j) v = rw (append-nil es) (notes .mark v)
   noted-marks again Misfit v = rw (append-nil es) (notes .mark v)
   noted-marks again Other v = rw (append-nil es) (notes .mark v)
 
   again-right : (first : Bool) (i : Item) → Again first (s .places) (placesIn es) (againIn (s .places) m i) i
   unfolding againIn
-  again-right first i e f later inside = rw f (marked-member (s .places) es m (notes .mark) (e .place) inside)
+  again-right first i e f later inside = rw f (marked-member markOf mark-positive (s .places) es m (notes .mark) (e .place) inside)
 
   -- the number of one item more
   module _ (i : Item) where
@@ -326,6 +351,7 @@ module _ (input : List ℕ) (rs : List Record) (m : List ℕ) (s : Survey) (note
         places = sizes .0;
         arcs = sizes .1;
         lanes = noted-lanes input again s i ∙ rw (notes .lanes, said-more, filterMap-append, length-append);
+        waits = noted-waits input again s i ∙ rw (notes .waits, said-more, filterMap-append, length-append);
         jobs = noted-jobs input again s i ∙ rw (notes .jobs, said-more, filterMap-append, length-append);
         job-last = noted-last input again s i ∙ rw (said-more, ends-snoc);
         job = noted-job input again s i ∙ rw (notes .job, said-more, last-snoc);

@@ -11,8 +11,8 @@ use borrow.Author.Tests.{lt-ltb, ne-eqb}
 use Rattle.judge.specs.declared.survey.Survey.{Survey}
 use Rattle.judge.specs.Numbers.{noNumber, numberOr}
 use Rattle.judge.specs.Marks.{firstMark, Clear}
-use Rattle.judge.specs.Survey.{fewPlaces, withHead, withLane, withJob, noted, againIn, Noted, Counted, saidOf, said, opening, stray, lastJob}
-use Rattle.judge.specs.Survey.{placed, itemRows, Notes, Walked, atEnd, Stating, Surveyed}
+use Rattle.judge.specs.Survey.{fewPlaces, withHead, withLane, withWait, withJob, noted, againIn, Noted, Counted}
+use Rattle.judge.specs.Survey.{saidOf, said, opening, stray, lastJob, placed, itemRows, Notes, Walked, atEnd, Stating, Surveyed}
 use Rattle.model.proofs.Tests.{filterMap-length}
 use Rattle.judge.proofs.MarkLaws.{mark-two}
 use Rattle.judge.proofs.ItemLaws.{last-one, opening-size, stray-head}
@@ -20,7 +20,7 @@ use Rattle.judge.proofs.SurveyLaws.{either, count, few-places, nothing-
 use Rattle.map.specs.declared.record as declared
 use Rattle.map.specs.declared.record.Read.the-variants.{Whole, Broken, End}
 use Rattle.map.specs.declared.record.Item.{Item}
-use Rattle.map.specs.declared.record.Item.the-variants.{Head, Lane, Measured, Estimate, Job, Misfit, Other}
+use Rattle.map.specs.declared.record.Item.the-variants.{Head, Lane, Measured, Estimate, Wait, Job, Misfit, Other}
 use Rattle.map.specs.Records.{readAt, recordIn}
 use Rattle.map.specs.Items.{jobOf, endBy, EndsBy, LiesIn, Says}
 use Rattle.map.proofs.Records.{frame-end, frame-broken, frame-whole}
@@ -44,6 +44,7 @@ empty =
       places = 0;
       arcs = 0;
       lanes = 0;
+      waits = 0;
       jobs = 0;
       «job_last» = false;
       job = record { start = 0; allowance = 0; goals = 0; «goals_at» = 0 };
@@ -60,6 +61,7 @@ notes-start input marks clear =
       places = refl;
       arcs = refl;
       lanes = refl;
+      waits = refl;
       jobs = refl;
       job-last = refl;
       job = refl;
@@ -84,12 +86,13 @@ walk-start input marks clear =
 -- a job that was noted last ends the bytes passed
 noted-ends : (again : Bool) (s : Survey) (r : declared.Record.Record) (i : Item) → EndsBy r i
     → noted again s i .«job_last» ≡ true → noted again s i .job .«goals_at» + 2 * noted again s i .job .goals ≡ r .end
-unfolding noted withHead withLane withJob endBy
+unfolding noted withHead withLane withWait withJob endBy
 noted-ends again s r (Head z) e last =
     absurd (false≢true (sym (either (λ t. t .«job_last») (eqb (s .records) 0) _ _ false refl refl) ∙ last))
 noted-ends again s r (Lane l) e last = absurd (false≢true last)
 noted-ends again s r (Measured l) e last = absurd (false≢true last)
 noted-ends again s r (Estimate x) e last = absurd (false≢true last)
+noted-ends again s r (Wait w) e last = absurd (false≢true last)
 noted-ends again s r (Job j) e last = e
 noted-ends again s r Misfit e last = absurd (false≢true last)
 noted-ends again s r Other e last = absurd (false≢true last)
@@ -99,10 +102,12 @@ module _ (input : List ℕ) (at : ℕ) (m : List ℕ) (s : Survey) (w : Walked i
   walk-counted room =
       let all = count input (w .passed) m s (w .notes) in
       let lanes = filterMap-length model.laneIn (said (w .passed)) in
+      let waits = filterMap-length model.waitIn (said (w .passed)) in
       let jobs = filterMap-length model.jobIn (said (w .passed)) in
       record {
         records = omega (arith, w .notes .records, w .few);
         lanes = omega (arith, w .notes .lanes);
+        waits = omega (arith, w .notes .waits);
         jobs = omega (arith, w .notes .jobs);
         places = rw (w .notes .places) (few-places (opening (said (w .passed)) .places));
       }
@@ -176,6 +181,7 @@ module _ (input : List ℕ) (m : List ℕ) (s : Survey) where
         places = rw is (notes .places ∙ ap (λ (z : model.Size). fewPlaces (z .places)) size);
         arcs = rw is (notes .arcs ∙ ap (λ (z : model.Size). z .arcs) size);
         lanes = rw is (notes .lanes ∙ rw fits);
+        waits = rw is (notes .waits ∙ rw fits);
         jobs = rw is (notes .jobs ∙ rw fits);
         job-last = rw is (notes .job-last ∙ rw fits);
         job = λ one. rw is (notes .job ∙ rw fits (last-one _ _ (model.items rs) (rw fits at (sym (notes .jobs) ∙ one))));

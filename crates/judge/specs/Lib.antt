@@ -3,5 +3,6 @@ pub mod Judge
 pub mod Numbers
 pub mod Marks
 pub mod Survey
+pub mod Waits
 pub mod Goals
 pub mod Verdict

@@ -8,10 +8,10 @@ use lib.Dec.{ltb, leb, eqb}
 use lib.ListN.{length, getD, drop}
 use Rattle.judge.specs.declared.survey.Survey.{Survey}
 use Rattle.judge.specs.Numbers.{noNumber, numberOr}
-use Rattle.judge.specs.Marks.{firstMark, marked, markedBy}
+use Rattle.judge.specs.Marks.{markOf, firstMark, marked, markedBy}
 use Rattle.map.specs.declared.record as declared
 use Rattle.map.specs.declared.record.Item.{Item}
-use Rattle.map.specs.declared.record.Item.the-variants.{Head, Lane, Measured, Estimate, Job, Misfit, Other}
+use Rattle.map.specs.declared.record.Item.the-variants.{Head, Lane, Measured, Estimate, Wait, Job, Misfit, Other}
 use Rattle.map.specs.Items.{jobOf}
 use Rattle.model.specs.Framing.{Record, frame}
 use Rattle.model.specs.Items as model
@@ -37,15 +37,20 @@ abbrev pub laneNumber : Bool → (n from to own : ℕ) → ℕ
 laneNumber first n from to own = cond first 4 (cond (leb n from || leb n to) 6 own)
 
 -- again: its place has an estimate already
-abbrev pub estimateNumber : Bool → ℕ → Bool → declared.Estimate.Estimate → ℕ
+abbrev pub estimateNumber : Bool → ℕ → Bool → declared.PlaceValue.PlaceValue → ℕ
 estimateNumber first n again e =
     cond first 4 (cond (leb n (e .place)) 6 (cond (ltb maxEstimate (e .value)) 8 (cond again 9 noNumber)))
+
+-- two waits for one place, and an arc that is too dear with its wait, are looked for later
+abbrev pub waitNumber : Bool → (n place : ℕ) → ℕ
+waitNumber first n place = cond first 4 (cond (leb n place) 6 noNumber)
 
 unfoldable pub given : Bool → ℕ → Bool → Item → ℕ
 given first n again (Head z) = cond first noNumber 4
 given first n again (Lane l) = laneNumber first n (l .from) (l .to) (costNumber (l .cost))
 given first n again (Measured l) = laneNumber first n (l .from) (l .to) (measureNumber (l .length) (l .class))
 given first n again (Estimate e) = estimateNumber first n again e
+given first n again (Wait w) = waitNumber first n (w .place)
 given first n again (Job j) = headless first
 given first n again Misfit = 3
 given first n again Other = 2
@@ -65,6 +70,7 @@ passed s number =
       places = s .places;
       arcs = s .arcs;
       lanes = s .lanes;
+      waits = s .waits;
       jobs = s .jobs;
       «job_last» = false;
       job = s .job;
@@ -78,6 +84,7 @@ opened s z =
       places = fewPlaces (z .places);
       arcs = z .arcs;
       lanes = s .lanes;
+      waits = s .waits;
       jobs = s .jobs;
       «job_last» = s .«job_last»;
       job = s .job;
@@ -95,6 +102,22 @@ withLane s from to own =
       places = t .places;
       arcs = t .arcs;
       lanes = t .lanes + 1;
+      waits = t .waits;
+      jobs = t .jobs;
+      «job_last» = t .«job_last»;
+      job = t .job;
+    }
+
+unfoldable pub withWait : Survey → ℕ → Survey
+withWait s place =
+    let t = passed s (waitNumber (eqb (s .records) 0) (s .places) place) in
+    record {
+      number = t .number;
+      records = t .records;
+      places = t .places;
+      arcs = t .arcs;
+      lanes = t .lanes;
+      waits = t .waits + 1;
       jobs = t .jobs;
       «job_last» = t .«job_last»;
       job = t .job;
@@ -109,6 +132,7 @@ withJob s j =
       places = t .places;
       arcs = t .arcs;
       lanes = t .lanes;
+      waits = t .waits;
       jobs = t .jobs + 1;
       «job_last» = true;
       job = j;
@@ -119,6 +143,7 @@ noted again s (Head z) = withHead s z
 noted again s (Lane l) = withLane s (l .from) (l .to) (costNumber (l .cost))
 noted again s (Measured l) = withLane s (l .from) (l .to) (measureNumber (l .length) (l .class))
 noted again s (Estimate e) = passed s (estimateNumber (eqb (s .records) 0) (s .places) again e)
+noted again s (Wait w) = withWait s (w .place)
 noted again s (Job j) = withJob s j
 noted again s Misfit = passed s 3
 noted again s Other = passed s 2
@@ -129,6 +154,7 @@ againIn n marks (Head z) = false
 againIn n marks (Lane l) = false
 againIn n marks (Measured l) = false
 againIn n marks (Estimate e) = marked n marks (e .place)
+againIn n marks (Wait w) = false
 againIn n marks (Job j) = false
 againIn n marks Misfit = false
 againIn n marks Other = false
@@ -138,7 +164,8 @@ unfoldable pub marksBy : ℕ → List ℕ → Item → List ℕ
 marksBy n marks (Head z) = marks
 marksBy n marks (Lane l) = marks
 marksBy n marks (Measured l) = marks
-marksBy n marks (Estimate e) = markedBy n marks (e .place) (e .value)
+marksBy n marks (Estimate e) = markedBy markOf n marks (e .place) (e .value)
+marksBy n marks (Wait w) = marks
 marksBy n marks (Job j) = marks
 marksBy n marks Misfit = marks
 marksBy n marks Other = marks
@@ -151,6 +178,7 @@ pub record Noted (marks₀ : List ℕ) (s : Survey) (i : Item) (marks : List ℕ
 pub record Counted (s : Survey) : Type 0 where
   pub records : s .records < 2 ^ 63
   pub lanes : s .lanes ≤ s .records
+  pub waits : s .waits ≤ s .records
   pub jobs : s .jobs ≤ s .records
   pub places : s .places ≤ maxPlaces
 
@@ -196,6 +224,7 @@ placed n s =
       size = record { places = n; arcs = s .size .arcs };
       lanes = s .lanes;
       estimates = s .estimates;
+      waits = s .waits;
       factors = s .factors;
       growth = s .growth;
       job = s .job;
@@ -212,11 +241,12 @@ pub record Notes (input : List ℕ) (rs : List Record) (marks : List ℕ) (s : S
   pub places : s .places ≡ fewPlaces (opening (said rs) .places)
   pub arcs : s .arcs ≡ opening (said rs) .arcs
   pub lanes : s .lanes ≡ length (filterMap model.laneIn (said rs))
+  pub waits : s .waits ≡ length (filterMap model.waitIn (said rs))
   pub jobs : s .jobs ≡ length (filterMap model.jobIn (said rs))
   pub job-last : s .«job_last» ≡ endsWithJob (said rs)
   pub job : jobOf input (s .job) ≡ lastJob noJob (said rs)
   pub room : length marks ≡ maxPlaces
-  pub mark : (v : ℕ) → getD marks v 0 ≡ cond (ltb v (s .places)) (firstMark (filterMap model.estimateIn (said rs)) v) 0
+  pub mark : (v : ℕ) → getD marks v 0 ≡ cond (ltb v (s .places)) (firstMark markOf (filterMap model.estimateIn (said rs)) v) 0
 
 -- the survey of the records before byte `at`
 pub record Walked (input : List ℕ) (at : ℕ) (marks : List ℕ) (s : Survey) : Type 0 where
@@ -237,6 +267,7 @@ atEnd s =
       places = s .places;
       arcs = s .arcs;
       lanes = s .lanes;
+      waits = s .waits;
       jobs = s .jobs;
       «job_last» = s .«job_last»;
       job = s .job;
@@ -251,6 +282,7 @@ pub record Stating (input : List ℕ) (marks : List ℕ) (s : Survey) : Type 0 w
   pub places : s .places ≡ fewPlaces (statedIn input .size .places)
   pub arcs : s .arcs ≡ statedIn input .size .arcs
   pub lanes : s .lanes ≡ length (statedIn input .lanes)
+  pub waits : s .waits ≡ length (statedIn input .waits)
   pub jobs : s .jobs ≡ length (filterMap model.jobIn (model.items (frame input .records)))
   pub job-last : s .«job_last» ≡ endsWithJob (model.items (frame input .records))
   pub job : s .jobs ≡ 1 → jobOf input (s .job) ≡ statedIn input .job

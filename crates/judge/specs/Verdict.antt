@@ -12,7 +12,7 @@ use Rattle.map.specs.Items.{jobOf}
 use Rattle.model.specs.Framing.{frame}
 use Rattle.model.specs.Items.{items}
 use Rattle.model.specs.Limits.{maxPlaces, maxGoals}
-use Rattle.model.specs.Refusals.{wrongJob, formRows, mapRows, jobRows, firstThatHolds, inputRefusal}
+use Rattle.model.specs.Refusals.{wrongJob, formRows, mapRows, costRows, jobRows, firstThatHolds, firstOf, inputRefusal}
 use Rattle.model.specs.Stated.{statedIn}
 
 abbrev pub goalsWrong : ℕ → Bool → Bool
@@ -27,7 +27,17 @@ pub record Formed (input : List ℕ) (marks : List ℕ) (s : Survey) : Type 0 wh
   pub number : s .number ≡ numberOr noNumber (mapRows (placed (s .places) (statedIn input)))
   pub states : Stating input marks s
 
--- none of 1 to 10 and 20 holds: the one job is the last record
+-- none of 1 to 9 and 20 holds
+pub record RightMap (input : List ℕ) (marks : List ℕ) (s : Survey) : Type 0 where
+  pub form : firstThatHolds (formRows (frame input)) ≡ 0
+  pub map : firstThatHolds (mapRows (statedIn input)) ≡ 0
+  pub places : s .places ≡ statedIn input .size .places
+  pub few : s .places ≤ maxPlaces
+  pub states : Stating input marks s
+  pub number : inputRefusal (frame input)
+      ≡ firstOf (firstThatHolds (costRows (statedIn input))) (firstThatHolds (jobRows (items (frame input .records)) (statedIn input)))
+
+-- none of 1 to 10, 20 and 21 holds: the one job is the last record
 pub record OneJob (input : List ℕ) (marks : List ℕ) (s : Survey) : Type 0 where
   pub places : s .places ≡ statedIn input .size .places
   pub few : s .places ≤ maxPlaces

@@ -1,9 +1,10 @@
-// Judges an input: the first of the papers' numbers 1 to 13 and 20 whose condition holds, or what an accepted input states.
+// Judges an input: the first of the papers' numbers 1 to 13, 20 and 21 whose condition holds, or what an accepted input states.
 mod goals;
 mod marks;
 mod numbers;
 mod survey;
 mod verdict;
+mod waits;
 
 use map::Job;
 pub use verdict::judge;

@@ -4,15 +4,15 @@ use crate::numbers;
 use map::Map;
 use map::number;
 use map::record;
-use map::record::Estimate;
 use map::record::Item;
 use map::record::JobFields;
+use map::record::PlaceValue;
 use map::record::Read;
 use map::record::Size;
 ghost use mathlib.Core.Path.{_≡_};
 ghost use Rattle.judge.specs.Marks.{Clear};
-ghost use Rattle.judge.specs.Survey.{fewPlaces, costNumber, measureNumber, laneNumber, estimateNumber, headless};
-ghost use Rattle.judge.specs.Survey.{passed, withHead, withLane, withJob, atEnd, Counted, Noted, Surveyed};
+ghost use Rattle.judge.specs.Survey.{fewPlaces, costNumber, measureNumber, laneNumber, estimateNumber, waitNumber, headless};
+ghost use Rattle.judge.specs.Survey.{passed, withHead, withLane, withWait, withJob, atEnd, Counted, Noted, Surveyed};
 
 pub struct Survey {
     // The least number that a record was given, NONE where none was.
@@ -22,6 +22,7 @@ pub struct Survey {
     pub places: usize,
     pub arcs: usize,
     pub lanes: usize,
+    pub waits: usize,
     pub jobs: usize,
     pub job_last: bool,
     // The last job.
@@ -68,7 +69,7 @@ fn lane_number(first: bool, places: usize, from: usize, to: usize, own: u32) -> 
     own
 }
 
-fn estimate_number(first: bool, places: usize, e: Estimate, again: bool) -> u32
+fn estimate_number(first: bool, places: usize, e: PlaceValue, again: bool) -> u32
     ensures { λ r. ⌜ r ≡ estimateNumber first places again e ⌝ }
 {
     if first {
@@ -82,6 +83,18 @@ fn estimate_number(first: bool, places: usize, e: Estimate, again: bool) -> u32
     }
     if again {
         return number::TWO_ESTIMATES;
+    }
+    numbers::NONE
+}
+
+fn wait_number(first: bool, places: usize, place: usize) -> u32
+    ensures { λ r. ⌜ r ≡ waitNumber first places place ⌝ }
+{
+    if first {
+        return number::WRONG_HEAD;
+    }
+    if places <= place {
+        return number::OUTSIDE_MAP;
     }
     numbers::NONE
 }
@@ -130,12 +143,21 @@ fn with_lane(s: Survey, from: usize, to: usize, own: u32) -> Survey
     t
 }
 
-fn with_estimate(s: Survey, e: Estimate, marks: &mut [u8; Map::PLACES]) -> Survey
+fn with_estimate(s: Survey, e: PlaceValue, marks: &mut [u8; Map::PLACES]) -> Survey
     requires { ⌜ Counted s ⌝ }
     ensures { λ t. ⌜ Noted (now (marks .entry)) s (Item.Estimate e) (now (marks .exit)) t ⌝ }
 {
     let again = marks::mark(marks, s.places, e.place, e.value);
     after(s, estimate_number(s.records == 0, s.places, e, again))
+}
+
+fn with_wait(s: Survey, place: usize) -> Survey
+    requires { ⌜ Counted s ⌝ }
+    ensures { λ t. ⌜ t ≡ withWait s place ⌝ }
+{
+    let mut t = after(s, wait_number(s.records == 0, s.places, place));
+    t.waits += 1;
+    t
 }
 
 fn with_job(s: Survey, job: JobFields) -> Survey
@@ -163,6 +185,7 @@ fn with_item(s: Survey, item: Item, marks: &mut [u8; Map::PLACES]) -> Survey
             measure_number(lane.length, lane.class),
         ),
         Item::Estimate(e) => with_estimate(s, e, marks),
+        Item::Wait(w) => with_wait(s, w.place),
         Item::Job(job) => with_job(s, job),
         Item::Misfit => after(s, number::WRONG_LENGTH),
         Item::Other => after(s, number::UNKNOWN_KIND),
@@ -191,6 +214,7 @@ pub fn of(input: &[u8], marks: &mut [u8; Map::PLACES]) -> Survey
         places: 0,
         arcs: 0,
         lanes: 0,
+        waits: 0,
         jobs: 0,
         job_last: false,
         job: JobFields {

@@ -4,6 +4,7 @@ use crate::goals;
 use crate::numbers;
 use crate::survey;
 use crate::survey::Survey;
+use crate::waits;
 use map::Job;
 use map::Map;
 use map::NewMap;
@@ -11,7 +12,7 @@ use map::Site;
 use map::number;
 ghost use mathlib.Core.Path.{_≡_};
 ghost use Rattle.judge.specs.Judge.{Judged};
-ghost use Rattle.judge.specs.Verdict.{goalsWrong, goalsNumber, Formed, OneJob};
+ghost use Rattle.judge.specs.Verdict.{goalsWrong, goalsNumber, Formed, RightMap, OneJob};
 
 // The growth of a map without a record for it.
 const GROWTH: u32 = 2;
@@ -59,6 +60,20 @@ fn judge_job(input: &[u8], s: Survey, marks: &[u8; Map::PLACES]) -> Judgement
     Judgement::Accepted(Job::new(site, job.allowance, job.goals, job.goals_at))
 }
 
+// Judges an input whose records have none of the numbers 1 to 9 and 20.
+fn judge_costs(input: &[u8], s: Survey, marks: &[u8; Map::PLACES]) -> Judgement
+    requires { ⌜ RightMap (now input) (now marks) s ⌝ }
+    ensures { λ r. ⌜ Judged (now (input .entry)) r ⌝ }
+{
+    if waits::wrong(input, s.waits) {
+        return Judgement::Refused(number::WRONG_WAIT);
+    }
+    if (s.jobs != 1) | !s.job_last {
+        return Judgement::Refused(number::WRONG_JOB);
+    }
+    judge_job(input, s, marks)
+}
+
 // Judges an input whose records have none of the numbers 1 to 4.
 fn judge_map(input: &[u8], s: Survey, marks: &[u8; Map::PLACES]) -> Judgement
     requires { ⌜ Formed (now input) (now marks) s ⌝ }
@@ -73,10 +88,7 @@ fn judge_map(input: &[u8], s: Survey, marks: &[u8; Map::PLACES]) -> Judgement
     if s.number != numbers::NONE {
         return Judgement::Refused(s.number);
     }
-    if (s.jobs != 1) | !s.job_last {
-        return Judgement::Refused(number::WRONG_JOB);
-    }
-    judge_job(input, s, marks)
+    judge_costs(input, s, marks)
 }
 
 pub fn judge(input: &[u8]) -> Judgement

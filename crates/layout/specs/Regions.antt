@@ -1,5 +1,6 @@
 -- The regions of the work area for n places, one after another: n labels, n depths, 10 × n words of the open list, n parents, n row ends,
--- n estimates, n goal marks; then a word for each arc, the arcs of a place side by side; then as many words that nobody uses.
+-- n estimates, n goal marks; then a word for each arc, the arcs of a place side by side; then as many words that nobody uses. While a map is loaded
+-- its waits lie where the parents will.
 use mathlib.Core.List.{List}
 use Prim.Native.Nat.{ℕ, _+_, _*_, _/_, _%_, _≤_, _<_}
 use lib.ListN.{length, getD, set}
@@ -15,6 +16,10 @@ openAt n = 2 * n
 abbrev pub parentsAt : ℕ → ℕ
 parentsAt n = 12 * n
 
+-- the waits, until the map is loaded
+abbrev pub waitsAt : ℕ → ℕ
+waitsAt n = parentsAt n
+
 abbrev pub endsAt : ℕ → ℕ
 endsAt n = 13 * n
 
@@ -27,7 +32,7 @@ goalsAt n = 15 * n
 abbrev pub arcsAt : ℕ → ℕ
 arcsAt n = 16 * n
 
--- a place's label, depth, parent, row end, estimate and goal mark, and the word of arc number k
+-- a place's label, depth, parent, wait, row end, estimate and goal mark, and the word of arc number k
 abbrev pub labelWord : List ℕ → ℕ → ℕ
 labelWord w v = getD w v 0
 
@@ -36,6 +41,9 @@ depthWord n w v = getD w (depthsAt n + v) 0
 
 abbrev pub parentWord : ℕ → List ℕ → ℕ → ℕ
 parentWord n w v = getD w (parentsAt n + v) 0
+
+abbrev pub waitWord : ℕ → List ℕ → ℕ → ℕ
+waitWord n w v = getD w (waitsAt n + v) 0
 
 abbrev pub endWord : ℕ → List ℕ → ℕ → ℕ
 endWord n w v = getD w (endsAt n + v) 0

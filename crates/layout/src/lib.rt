@@ -5,8 +5,8 @@ ghost use mathlib.Core.Bool.{not};
 ghost use Prim.Native.Nat.{_≤_, _<_};
 ghost use lib.Dec.{eqb};
 ghost use lib.ListN.{length};
-ghost use Rattle.layout.specs.Regions.{depthsAt, openAt, parentsAt, endsAt, estimatesAt, goalsAt, arcsAt};
-ghost use Rattle.layout.specs.Regions.{labelWord, depthWord, parentWord, estimateWord, goalWord, arcWord};
+ghost use Rattle.layout.specs.Regions.{depthsAt, openAt, parentsAt, waitsAt, endsAt, estimatesAt, goalsAt, arcsAt};
+ghost use Rattle.layout.specs.Regions.{labelWord, depthWord, parentWord, waitWord, estimateWord, goalWord, arcWord};
 ghost use Rattle.layout.specs.Regions.{withLabel, withDepth, withParent};
 ghost use Rattle.layout.specs.Regions.{partEnd, arcEnd, arcCost, wordOfArc, HasPlace, HasArc};
 ghost use Rattle.layout.specs.Map.{rowStart, rowEnd};
@@ -38,6 +38,14 @@ pub fn parents_at(places: usize) -> usize
     ensures { λ r. ⌜ r ≡ parentsAt places ⌝ }
 {
     12 * places
+}
+
+// While a map is loaded its waits lie where the parents will.
+pub fn waits_at(places: usize) -> usize
+    requires { ⌜ places ≤ maxPlaces ⌝ }
+    ensures { λ r. ⌜ r ≡ waitsAt places ⌝ }
+{
+    parents_at(places)
 }
 
 pub fn ends_at(places: usize) -> usize
@@ -136,6 +144,13 @@ pub fn listed(work: &[u32], places: usize, i: usize) -> usize
     ensures { λ r. ⌜ r ≡ listedAt places (now (work .entry)) i ⌝ }
 {
     parent(work, places, i) as usize
+}
+
+pub fn wait(work: &[u32], places: usize, v: usize) -> u32
+    requires { ⌜ HasPlace places v (now work) ⌝ }
+    ensures { λ r. ⌜ r ≡ waitWord places (now (work .entry)) v ⌝ }
+{
+    parent(work, places, v)
 }
 
 pub fn estimate(work: &[u32], places: usize, v: usize) -> u32

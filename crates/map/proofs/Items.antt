@@ -12,17 +12,18 @@ use borrow.Author.Tests.{eq-eqb, ne-eqb, eqb-true, eqb-false, ltb-true, ltb-fals
 use Rattle.map.specs.declared.record as declared
 use Rattle.map.specs.declared.record.Record.{Record}
 use Rattle.map.specs.declared.record.Item.{Item}
-use Rattle.map.specs.declared.record.Item.the-variants.{Head, Lane, Measured, Estimate, Job, Misfit, Other}
+use Rattle.map.specs.declared.record.Item.the-variants.{Head, Lane, Measured, Estimate, Wait, Job, Misfit, Other}
 use Rattle.map.specs.Records.{recordIn}
-use Rattle.map.specs.Items.{sizeAt, estimateAt, jobAt, isMisfit, laneMeant, measuredMeant, jobOf, meant, endBy, LiesIn, FitsIn, Says}
+use Rattle.map.specs.Items.{sizeAt, estimateAt, waitBodyAt, jobAt, isMisfit, laneMeant, measuredMeant, jobOf, meant, endBy}
+use Rattle.map.specs.Items.{LiesIn, FitsIn, Says}
 use Rattle.map.proofs.Parts.{u16-drop, u32-drop, u16-part, u32-part, u16s-part}
 use Rattle.model.specs.Bytes.{u16, u32}
 use Rattle.model.specs.Framing as framing
 use Rattle.model.specs.Items as model
 use Rattle.model.proofs.Bytes.{u16s-length}
 use Rattle.model.proofs.Lists.{neither, both}
-use Rattle.model.proofs.Items.{KindOf, is-head, is-lane, is-measured, is-estimate, is-job, is-other, kind-of}
-use Rattle.model.proofs.Items.{head-item, lane-item, measured-item, estimate-item, job-item, other-item}
+use Rattle.model.proofs.Items.{KindOf, is-head, is-lane, is-measured, is-estimate, is-wait, is-job, is-other, kind-of}
+use Rattle.model.proofs.Items.{head-item, lane-item, measured-item, estimate-item, wait-item, job-item, other-item}
 
 -- the fields of a body that begins at byte `at`, in the input
 module _ (input : List ℕ) (at : ℕ) where
@@ -50,6 +51,10 @@ module _ (input : List ℕ) (at : ℕ) where
   unfolding estimateAt model.estimateOf
   estimate-at = rw (u16-drop at input 0 (at + 0) refl, u32-drop at input 2 (at + 2) refl)
 
+  pub wait-at : waitBodyAt input at ≡ record { place = u16 input (at + 0); value = u16 input (at + 2) }
+  unfolding waitBodyAt model.waitOf
+  wait-at = rw (u16-drop at input 0 (at + 0) refl, u16-drop at input 2 (at + 2) refl)
+
   pub job-at : (len : ℕ)
       → jobAt input at len
       ≡ cond (ltb len model.jobBytes || not (eqb len (model.jobBytes + 2 * u16 input (at + 6)))) Misfit
@@ -70,12 +75,12 @@ both-are k kind n size e = let are = both (eqb k kind) (eqb n size) e in (eqb-tr
 not-both : (k kind n size : ℕ) → eqb k kind && eqb n size ≡ false → k ≡ kind → n ≢ size
 not-both k kind n size e p q = true≢false (rw (eq-eqb k kind p, eq-eqb n size q) at e)
 
--- the kinds from 1 to 5 are the papers'
+-- the kinds from 1 to 6 are the papers'
 first-kinds : (k : ℕ) → model.headKind ≤ k → k ≢ model.headKind → k ≢ model.arcKind → k ≢ model.estimateKind → model.jobKind ≤ k
 first-kinds k low a b c = omega (arith, a, b, c)
 
-last-kinds : (k : ℕ) → model.jobKind ≤ k → k ≤ model.measuredKind → k ≢ model.jobKind → k ≢ model.measuredKind → ⊥
-last-kinds k low high a b = omega (arith, a, b)
+last-kinds : (k : ℕ) → model.jobKind ≤ k → k ≤ model.waitKind → k ≢ model.jobKind → k ≢ model.measuredKind → k ≢ model.waitKind → ⊥
+last-kinds k low high a b c = omega (arith, a, b, c)
 
 module _ (input : List ℕ) (r : Record) (lies : LiesIn input r) where
   abbrev whole : framing.Record
@@ -168,6 +173,16 @@ module _ (input : List ℕ) (r : Record) (lies : LiesIn input r) where
       let value = u32-part input (r .start) len 2 (r .start + 2) (omega arith) refl in
       rw (estimate-at input (r .start)) (fitting-says (Estimate _) _ (estimate-item whole kind ∙ rw (place, value)) refl h refl (omega arith))
 
+  -- a wait of four
+  pub wait-says : Fits model.waitKind model.waitBytes → Says input r (Wait (waitBodyAt input (r .start)))
+  unfolding model.waitOf model.bodyLength meant isMisfit endBy
+  wait-says fits =
+      let (kind, h) = both-are (r .kind) model.waitKind len model.waitBytes fits in
+      let field = u16-part input (r .start) len in
+      let place = field 0 (r .start + 0) (omega arith) refl in
+      let value = field 2 (r .start + 2) (omega arith) refl in
+      rw (wait-at input (r .start)) (fitting-says (Wait _) _ (wait-item whole kind ∙ rw (place, value)) refl h refl (omega arith))
+
   -- a job of eight, and of two more for each goal
   module _ (kind : r .kind ≡ model.jobKind) where
     goal-count : model.jobBytes ≤ len → u16 (whole .body) 6 ≡ u16 input (r .start + 6)
@@ -215,37 +230,39 @@ module _ (input : List ℕ) (r : Record) (lies : LiesIn input r) where
 
   -- any other kind
   pub other-says : r .kind ≢ model.headKind → r .kind ≢ model.arcKind → r .kind ≢ model.estimateKind → r .kind ≢ model.jobKind
-      → r .kind ≢ model.measuredKind → Says input r Other
+      → r .kind ≢ model.measuredKind → r .kind ≢ model.waitKind → Says input r Other
   unfolding model.misfits model.bodyLength model.otherThan meant isMisfit endBy
-  other-says a b c d e =
-      let is = other-item whole a b c d e in
+  other-says a b c d e f =
+      let is = other-item whole a b c d e f in
       record { misfit = rw is; item = λ e. is; ends = refl }
 
   abbrev outside : Bool
-  outside = ltb (r .kind) model.headKind || ltb model.measuredKind (r .kind)
+  outside = ltb (r .kind) model.headKind || ltb model.waitKind (r .kind)
 
   pub outside-says : outside ≡ true → Says input r Other
-  outside-says out = other-says (apart refl) (apart refl) (apart refl) (apart refl) (apart refl)
+  outside-says out = other-says (apart refl) (apart refl) (apart refl) (apart refl) (apart refl) (apart refl)
     where
-      apart : {k : ℕ} → (ltb k model.headKind || ltb model.measuredKind k) ≡ false → r .kind ≢ k
+      apart : {k : ℕ} → (ltb k model.headKind || ltb model.waitKind k) ≡ false → r .kind ≢ k
       apart inside is = true≢false (sym out ∙ rw is inside)
 
   -- a kind of fixed length, and another length than that
   pub none-fits : outside ≡ false → r .kind ≢ model.jobKind → FitsNot model.headKind model.headBytes → FitsNot model.arcKind model.arcBytes
-      → FitsNot model.estimateKind model.estimateBytes → FitsNot model.measuredKind model.measuredBytes → Says input r Misfit
+      → FitsNot model.estimateKind model.estimateBytes → FitsNot model.measuredKind model.measuredBytes → FitsNot model.waitKind model.waitBytes
+      → Says input r Misfit
   unfolding model.bodyLength model.chargeBytes model.laneOf model.measuredOf
-  none-fits inside no-job no-head no-lane no-estimate no-measured = go (kind-of whole)
+  none-fits inside no-job no-head no-lane no-estimate no-measured no-wait = go (kind-of whole)
     where
       go : {i : model.Item} → KindOf whole i → Says input r Misfit
       go (is-head k) = misfit-says _ _ (head-item whole k) refl (not-both _ _ _ _ no-head k)
       go (is-lane k) = misfit-says _ _ (lane-item whole k) refl (not-both _ _ _ _ no-lane k)
       go (is-measured k) = misfit-says _ _ (measured-item whole k) refl (not-both _ _ _ _ no-measured k)
       go (is-estimate k) = misfit-says _ _ (estimate-item whole k) refl (not-both _ _ _ _ no-estimate k)
+      go (is-wait k) = misfit-says _ _ (wait-item whole k) refl (not-both _ _ _ _ no-wait k)
       go (is-job k) = absurd (no-job k)
-      go (is-other a b c d f) =
+      go (is-other a b c d e f) =
           let range = neither (ltb (r .kind) model.headKind) _ inside in
           let low = first-kinds (r .kind) (ltb-false (r .kind) model.headKind (range .0)) a b c in
-          absurd (last-kinds (r .kind) low (ltb-false model.measuredKind (r .kind) (range .1)) d f)
+          absurd (last-kinds (r .kind) low (ltb-false model.waitKind (r .kind) (range .1)) d e f)
 
 -- a record of a kind that fits has its length
 module _ (input : List ℕ) (r : Record) (can : FitsIn input r) where
@@ -270,3 +287,7 @@ module _ (input : List ℕ) (r : Record) (can : FitsIn input r) where
   pub estimate-fits : r .kind ≡ model.estimateKind → Fits input r (can .lies) model.estimateKind model.estimateBytes
   unfolding model.bodyLength
   estimate-fits k = fitting _ _ _ (estimate-item _ k) refl k
+
+  pub wait-fits : r .kind ≡ model.waitKind → Fits input r (can .lies) model.waitKind model.waitBytes
+  unfolding model.bodyLength
+  wait-fits k = fitting _ _ _ (wait-item _ k) refl k

@@ -11,13 +11,15 @@ use Rattle.map.proofs.record.Read.{the-type}
 use Rattle.map.specs.declared.record.Record.{Record}
 use Rattle.map.specs.declared.record.Read.{Read}
 use Rattle.map.specs.declared.record.Read.the-variants.{Whole}
+use Rattle.map.specs.declared.record as declared
 use Rattle.map.specs.declared.record.Item.{Item}
+use Rattle.map.specs.declared.record.Item.the-variants as variants
 use Rattle.model.specs.Framing.{frame}
 use Rattle.model.specs.Items as model
 use Rattle.model.specs.Items.{items}
 use Rattle.model.specs.Refusals.{wrongLength}
 use Rattle.map.specs.Records.{readAt}
-use Rattle.map.specs.Items.{meant, FitsIn, Says}
+use Rattle.map.specs.Items.{laneMeant, measuredMeant, meant, ofMap, FitsIn, Says}
 use Rattle.map.specs.Walks.{Walking}
 use Rattle.map.proofs.Reading.{Next, next-record, none-left, next-fits, next-item}
 
@@ -67,3 +69,24 @@ module _ {S : Type 0} {I : List model.Item → S → Type 0} {input : List ℕ} 
         λ k m. comes .walk .among k (rw (comes .left) (List·Memᴰ·tail m)) in
         let fit = next-fits input at r (comes .next) (comes .walk .fit) .1 in
         rw end (record { inside = comes .next .lies .ends; fit = fit; among = later; holds = holds })
+
+-- what holds of an item, and for every job alike, holds of it as far as it is the map's
+pub of-map : (input : List ℕ) (P : model.Item → Type 0) → ((j k : model.Job) → P (model.job j) → P (model.job k)) → (i : Item) → P (meant input i) → P (ofMap i)
+unfolding meant
+of-map input P alike (variants.Head s) p = p
+of-map input P alike (variants.Lane l) p = p
+of-map input P alike (variants.Measured l) p = p
+of-map input P alike (variants.Estimate e) p = p
+of-map input P alike (variants.Wait w) p = p
+of-map input P alike (variants.Job j) p = alike _ _ p
+of-map input P alike variants.Misfit p = p
+of-map input P alike variants.Other p = p
+
+-- a lane of either kind is the map's
+pub lane-said : {i : Item} {l : declared.Lane.Lane} → i ≡ variants.Lane l → ofMap i ≡ model.lane (laneMeant l)
+unfolding meant
+lane-said is = rw is
+
+pub measured-said : {i : Item} {l : declared.MeasuredLane.MeasuredLane} → i ≡ variants.Measured l → ofMap i ≡ model.lane (measuredMeant l)
+unfolding meant
+measured-said is = rw is

@@ -1,23 +1,29 @@
 -- What a record of the input says, as the reader hands it on.
 use mathlib.Core.Path.{_≡_}
 use mathlib.Core.Bool.{Bool, true, false, cond, _||_, not}
-use mathlib.Core.List.{List}
+use mathlib.Core.List.{List, []}
 use Prim.Native.Nat.{ℕ, _+_, _*_, _≤_}
 use lib.Dec.{ltb, eqb}
 use lib.ListN.{length, drop}
 use Rattle.map.specs.declared.record as declared
 use Rattle.map.specs.declared.record.Item.{Item}
-use Rattle.map.specs.declared.record.Item.the-variants.{Head, Lane, Measured, Estimate, Job, Misfit, Other}
+use Rattle.map.specs.declared.record.Item.the-variants.{Head, Lane, Measured, Estimate, Wait, Job, Misfit, Other}
 use Rattle.map.specs.Records.{recordIn}
 use Rattle.model.specs.Bytes.{u16s}
 use Rattle.model.specs.Items as model
+use Rattle.model.specs.Limits.{maxCost}
+use Rattle.model.specs.Refusals.{mismeasured}
+use Rattle.model.specs.Stated.{costUnder}
 
 -- what a body that begins at byte `at` says, in the code's types
 unfoldable pub sizeAt : List ℕ → ℕ → declared.Size.Size
 sizeAt input at = let s = model.headOf (drop at input) in record { places = s .places; arcs = s .arcs }
 
-unfoldable pub estimateAt : List ℕ → ℕ → declared.Estimate.Estimate
+unfoldable pub estimateAt : List ℕ → ℕ → declared.PlaceValue.PlaceValue
 estimateAt input at = let e = model.estimateOf (drop at input) in record { place = e .place; value = e .value }
+
+unfoldable pub waitBodyAt : List ℕ → ℕ → declared.PlaceValue.PlaceValue
+waitBodyAt input at = let w = model.waitOf (drop at input) in record { place = w .place; value = w .value }
 
 -- a job's body has `len` bytes
 unfoldable pub jobAt : List ℕ → ℕ → ℕ → Item
@@ -32,6 +38,7 @@ isMisfit (Head s) = false
 isMisfit (Lane l) = false
 isMisfit (Measured l) = false
 isMisfit (Estimate e) = false
+isMisfit (Wait w) = false
 isMisfit (Job j) = false
 isMisfit Misfit = true
 isMisfit Other = false
@@ -52,9 +59,19 @@ meant input (Head s) = model.head (record { places = s .places; arcs = s .arcs }
 meant input (Lane l) = model.lane (laneMeant l)
 meant input (Measured l) = model.lane (measuredMeant l)
 meant input (Estimate e) = model.estimate (record { place = e .place; value = e .value })
+meant input (Wait w) = model.wait (record { place = w .place; value = w .value })
 meant input (Job j) = model.job (jobOf input j)
 meant input Misfit = model.other
 meant input Other = model.other
+
+-- as far as it is the map's: no goal of a job is read
+abbrev pub ofMap : Item → model.Item
+ofMap i = meant [] i
+
+-- a charge that is in range and costs no more than an arc may
+pub record Priced (factors : List ℕ) (c : model.Charge) : Type 0 where
+  pub measure : mismeasured c ≡ false
+  pub cost : costUnder factors c ≤ maxCost
 
 -- where the body ends, by what it says
 unfoldable pub endBy : declared.Record.Record → Item → ℕ
@@ -62,6 +79,7 @@ endBy r (Head s) = r .start + model.headBytes
 endBy r (Lane l) = r .start + model.arcBytes
 endBy r (Measured l) = r .start + model.measuredBytes
 endBy r (Estimate e) = r .start + model.estimateBytes
+endBy r (Wait w) = r .start + model.waitBytes
 endBy r (Job j) = j .«goals_at» + 2 * j .goals
 endBy r Misfit = r .end
 endBy r Other = r .end

@@ -40,3 +40,5 @@ pub const NO_SHEET: u32 = 18;
 pub const NO_JOB: u32 = 19;
 
 pub const WRONG_MEASURE: u32 = 20;
+
+pub const WRONG_WAIT: u32 = 21;

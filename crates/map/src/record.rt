@@ -1,10 +1,12 @@
 // Records of the input, one after another, and what each says. Kinds, body lengths and the places of fields are spelled here and nowhere else.
+use crate::Map;
 ghost use mathlib.Core.Path.{_≡_};
 ghost use Prim.Native.Nat.{_+_, _≤_};
 ghost use lib.ListN.{length, drop};
-ghost use Rattle.model.specs.Items.{headBytes, arcBytes, estimateBytes, measuredBytes, laneOf, measuredOf};
+ghost use Rattle.model.specs.Items.{headBytes, arcBytes, estimateBytes, measuredBytes, waitBytes, laneOf, measuredOf};
+ghost use Rattle.model.specs.Stated.{costUnder};
 ghost use Rattle.map.specs.Records.{readAt};
-ghost use Rattle.map.specs.Items.{sizeAt, laneMeant, measuredMeant, estimateAt, jobAt, LiesIn, FitsIn, Says, EndsBy};
+ghost use Rattle.map.specs.Items.{sizeAt, laneMeant, measuredMeant, estimateAt, waitBodyAt, jobAt, Priced, LiesIn, FitsIn, Says, EndsBy};
 
 pub const HEAD_KIND: u16 = 1;
 
@@ -17,8 +19,10 @@ pub const JOB_KIND: u16 = 4;
 // An arc that is measured: it has a length and a class in place of a cost.
 pub const MEASURED_KIND: u16 = 5;
 
+pub const WAIT_KIND: u16 = 6;
+
 // The papers' kinds are those from 1 on up to this one.
-const LAST_KIND: u16 = 5;
+const LAST_KIND: u16 = 6;
 
 // The bytes before a record's body: its length and its kind.
 pub const HEADER: usize = 4;
@@ -31,6 +35,8 @@ pub const ARC_BYTES: usize = 6;
 pub const ESTIMATE_BYTES: usize = 6;
 
 pub const MEASURED_BYTES: usize = 8;
+
+pub const WAIT_BYTES: usize = 4;
 
 // Where the fields of a head stand in its body.
 const PLACES: usize = 0;
@@ -48,7 +54,7 @@ const LENGTH: usize = 4;
 
 const CLASS: usize = 6;
 
-// Where the fields of an estimate stand in its body.
+// Where the fields of an estimate and of a wait stand in its body.
 const PLACE: usize = 0;
 
 const VALUE: usize = 2;
@@ -94,7 +100,8 @@ pub struct MeasuredLane {
     pub class: usize,
 }
 
-pub struct Estimate {
+// A number for a place: an estimate, or a wait.
+pub struct PlaceValue {
     pub place: usize,
     pub value: u32,
 }
@@ -112,7 +119,8 @@ pub enum Item {
     Head(Size),
     Lane(Lane),
     Measured(MeasuredLane),
-    Estimate(Estimate),
+    Estimate(PlaceValue),
+    Wait(PlaceValue),
     Job(JobFields),
     Misfit,
     Other,
@@ -174,13 +182,23 @@ fn measured_at(input: &[u8], at: usize) -> MeasuredLane
     }
 }
 
-fn estimate_at(input: &[u8], at: usize) -> Estimate
+fn estimate_at(input: &[u8], at: usize) -> PlaceValue
     requires { ⌜ at + estimateBytes ≤ length (now input) ⌝ }
     ensures { λ r. ⌜ r ≡ estimateAt (now (input .entry)) at ⌝ }
 {
-    Estimate {
+    PlaceValue {
         place: area::index(area::u16_at(input, at + PLACE)),
         value: area::u32_at(input, at + VALUE),
+    }
+}
+
+fn wait_at(input: &[u8], at: usize) -> PlaceValue
+    requires { ⌜ at + waitBytes ≤ length (now input) ⌝ }
+    ensures { λ r. ⌜ r ≡ waitBodyAt (now (input .entry)) at ⌝ }
+{
+    PlaceValue {
+        place: area::index(area::u16_at(input, at + PLACE)),
+        value: area::wide16(area::u16_at(input, at + VALUE)),
     }
 }
 
@@ -219,6 +237,9 @@ pub fn item_of(input: &[u8], r: Record) -> Item
     if (r.kind == ESTIMATE_KIND) & (len == ESTIMATE_BYTES) {
         return Item::Estimate(estimate_at(input, r.start));
     }
+    if (r.kind == WAIT_KIND) & (len == WAIT_BYTES) {
+        return Item::Wait(wait_at(input, r.start));
+    }
     if (r.kind == HEAD_KIND) & (len == HEAD_BYTES) {
         return Item::Head(head_at(input, r.start));
     }
@@ -231,11 +252,13 @@ pub fn item_of(input: &[u8], r: Record) -> Item
     Item::Misfit
 }
 
-// The same of a record whose length is known to be that of its kind, so that it is not looked at again.
+// The same of a record whose length is known to be that of its kind, so that it is not looked at again; but a wait's is, since out of kinds alone the
+// compiler would make a table of jumps.
 pub fn fitting_item(input: &[u8], r: Record) -> Item
     requires { ⌜ FitsIn (now input) r ⌝ }
     ensures { λ i. ⌜ Says (now (input .entry)) r i ⌝ }
 {
+    let len = r.end - r.start;
     if r.kind == ARC_KIND {
         return Item::Lane(lane_at(input, r.start));
     }
@@ -245,17 +268,29 @@ pub fn fitting_item(input: &[u8], r: Record) -> Item
     if r.kind == ESTIMATE_KIND {
         return Item::Estimate(estimate_at(input, r.start));
     }
+    if (r.kind == WAIT_KIND) & (len == WAIT_BYTES) {
+        return Item::Wait(wait_at(input, r.start));
+    }
     if r.kind == HEAD_KIND {
         return Item::Head(head_at(input, r.start));
     }
     if r.kind == JOB_KIND {
-        return job_at(input, r.start, r.end - r.start);
+        return job_at(input, r.start, len);
     }
     Item::Other
 }
 
-// Where a record ends that says this. That it is an arc or an estimate says it, so that what is read next need not wait for the length that
-// was just read.
+// What a lane that is measured costs under a table of factors.
+pub fn measured_cost(lane: MeasuredLane, factors: &[u32; Map::CLASS + 1]) -> u32
+    requires { ⌜ Priced (now factors) (measuredMeant lane .charge) ⌝ }
+    ensures { λ r. ⌜ r ≡ costUnder (now (factors .entry)) (measuredMeant lane .charge) ⌝ }
+{
+    let class = lane.class;
+    lane.length * factors[class]
+}
+
+// Where a record ends that says this. That it is an arc, an estimate or a wait says it, so that what is read next need not be held up by the length
+// that was just read.
 pub fn end_of(r: Record, item: Item) -> usize
     requires { ⌜ EndsBy r item ⌝ }
     ensures { λ e. ⌜ e ≡ r .end ⌝ }
@@ -264,6 +299,7 @@ pub fn end_of(r: Record, item: Item) -> usize
         Item::Lane(_) => r.start + ARC_BYTES,
         Item::Measured(_) => r.start + MEASURED_BYTES,
         Item::Estimate(_) => r.start + ESTIMATE_BYTES,
+        Item::Wait(_) => r.start + WAIT_BYTES,
         Item::Head(_) | Item::Job(_) | Item::Misfit | Item::Other => r.end,
     }
 }

@@ -12,12 +12,13 @@ use Rattle.area.proofs.Sets.{sets-then}
 use Rattle.model.specs.Bytes.{put16}
 use Rattle.model.specs.Framing.{putRecord}
 use Rattle.model.specs.Limits.{maxPlaces}
+use Rattle.model.specs.Items.{estimateKind, waitKind}
 use Rattle.model.specs.Jobs.{putHead, putLane}
 use Rattle.map.specs.declared.Job.{Job}
-use Rattle.layout.specs.Regions.{estimatesAt, goalsAt, arcsAt}
+use Rattle.layout.specs.Regions.{waitsAt, endsAt, estimatesAt, goalsAt, arcsAt}
 use Rattle.sort.specs.Keys.{keysOf, keyFrom}
 use Rattle.lane_rows.specs.Keys.{laneIn}
-use Rattle.map_records.specs.Puts.{Put, Fits, putLanes, putNonzero, putEstimates, putJobOf, mapText, Puttable}
+use Rattle.map_records.specs.Puts.{Put, Fits, putLanes, putNonzero, putByPlace, putJobOf, mapText, Puttable}
 use Rattle.map_records.proofs.PutRecords.{put-none}
 
 -- bytes put directly after others are put with them
@@ -77,40 +78,40 @@ no-lanes (x ∷ y ∷ words) h = absurd (omega arith)
 pub lanes-done : (words : List ℕ) (k : ℕ) → length words ≤ k + k + 1 → putLanes (drop (k + k) words) ≡ []
 lanes-done words k h = no-lanes (drop (k + k) words) (omega (arith, length-drop (k + k) words))
 
-pub estimates-from : (words : List ℕ) (v : ℕ) → v < length words
-    → Begins (putEstimates v (drop v words)) (putNonzero v (getD words v 0)) (putEstimates (v + 1) (drop (v + 1) words))
-unfolding putEstimates
-estimates-from words v h = record { split = rw (drop-cons words v 0 h, add-one v) }
+-- the numbers of places from v on
+pub by-place-from : (kind : ℕ) (words : List ℕ) (v : ℕ) → v < length words
+    → Begins (putByPlace kind v (drop v words)) (putNonzero kind v (getD words v 0)) (putByPlace kind (v + 1) (drop (v + 1) words))
+unfolding putByPlace
+by-place-from kind words v h = record { split = rw (drop-cons words v 0 h, add-one v) }
 
-pub estimates-done : (words : List ℕ) (v : ℕ) → length words ≤ v → putEstimates v (drop v words) ≡ []
-unfolding putEstimates
-estimates-done words v h = rw (drop-of-length-le words h)
+pub by-place-done : (kind : ℕ) (words : List ℕ) (v : ℕ) → length words ≤ v → putByPlace kind v (drop v words) ≡ []
+unfolding putByPlace
+by-place-done kind words v h = rw (drop-of-length-le words h)
 
 -- ---- A map
 
--- what is left after the lanes, and after the head
+-- what is left after the estimates, after the lanes, and after the head
+unfoldable pub afterEstimates : List ℕ → Job → List ℕ → List ℕ
+afterEstimates input j w = putByPlace waitKind 0 (part (waitsAt (j .site .places)) (endsAt (j .site .places)) w) ++ putJobOf input j
+
 unfoldable pub afterLanes : List ℕ → Job → List ℕ → List ℕ
-afterLanes input j w = putEstimates 0 (part (estimatesAt (j .site .places)) (goalsAt (j .site .places)) w) ++ putJobOf input j
+afterLanes input j w =
+    putByPlace estimateKind 0 (part (estimatesAt (j .site .places)) (goalsAt (j .site .places)) w) ++ afterEstimates input j w
 
 unfoldable pub afterHead : List ℕ → Job → List ℕ → List ℕ
 afterHead input j w =
     let start = arcsAt (j .site .places) in
     putLanes (part start (start + 2 * j .site .arcs) w) ++ afterLanes input j w
 
-module _ (input : List ℕ) (j : Job) (w : List ℕ) where
-  pub head-first : Begins (mapText input j w) (putHead (j .site .places) (j .site .arcs)) (afterHead input j w)
-  unfolding mapText afterHead afterLanes
-  head-first = record { split = simp append-assoc }
+head-first : (input : List ℕ) (j : Job) (w : List ℕ)
+    → Begins (mapText input j w) (putHead (j .site .places) (j .site .arcs)) (afterHead input j w)
+unfolding mapText afterHead afterLanes afterEstimates
+head-first input j w = record { split = simp append-assoc }
 
-  pub lanes-next : {start : ℕ} → start ≡ arcsAt (j .site .places)
-      → Begins (afterHead input j w) (putLanes (part start (start + 2 * j .site .arcs) w)) (afterLanes input j w)
-  unfolding afterHead
-  lanes-next is = record { split = rw is }
-
-  pub estimates-next : {first last : ℕ} → first ≡ estimatesAt (j .site .places) → last ≡ goalsAt (j .site .places)
-      → Begins (afterLanes input j w) (putEstimates 0 (part first last w)) (putJobOf input j)
-  unfolding afterLanes
-  estimates-next is is' = record { split = rw (is, is') }
+-- what is put of a part of the words comes next
+pub part-next : (put : List ℕ → List ℕ) (w rest : List ℕ) {first last a e : ℕ} → first ≡ a → last ≡ e
+    → Begins (put (part a e w) ++ rest) (put (part first last w)) rest
+part-next put w rest is is' = record { split = rw (is, is') }
 
 module _ {input : List ℕ} {j : Job} {w out : List ℕ} (can : Puttable input j w out) where
   pub head-fits : 8 ≤ length out
@@ -122,6 +123,8 @@ module _ {input : List ℕ} {j : Job} {w out : List ℕ} (can : Puttable input j
   unfolding putHead putRecord put16
   head-put e = next-put (head-first input j w) (all-left {old = out} (can .room)) (record { bytes = e; end = refl })
 
-  pub few-estimates : (first last : ℕ) → first ≡ estimatesAt (j .site .places) → last ≡ goalsAt (j .site .places)
+  -- a region with a word for each place
+  pub few-words : {first last a e : ℕ} → first ≡ a → last ≡ e → e ≡ a + j .site .places → e ≤ arcsAt (j .site .places)
       → length (part first last w) ≤ maxPlaces
-  few-estimates first last is is' = rw (part-length first last w (omega (arith, can .words))) (omega (arith, can .few))
+  few-words {first} {last} is is' each inside =
+      rw (part-length first last w (omega (arith, can .words))) (omega (arith, can .few))

@@ -1,8 +1,8 @@
--- Records put into the output area field after field: the head, a lane as its key says, an estimate, the job. Assumes nothing.
+-- Records put into the output area field after field: the head, a lane as its key says, a place's estimate or wait, the job. Assumes nothing.
 use mathlib.Core.Path.{_≡_, refl, ap, _∙_}
 use mathlib.Core.Logic.{_≢_}
 use mathlib.Core.List.{List, [], _++_}
-use Prim.Native.Nat.{ℕ, _+_, _-_, _*_, _/_, _%_, _≤_, _<_}
+use Prim.Native.Nat.{ℕ, _+_, _-_, _*_, _/_, _%_, _<_}
 use native.Mathlib.Numerals.{towards-suc}
 use native.Mathlib.Omega.{arith}
 use lib.ListN.{length, take, drop, length-take, length-drop}
@@ -11,14 +11,13 @@ use borrow.Author.Tests.{eq-eqb, ne-eqb}
 use Rattle.area.proofs.Sets.{sets-then}
 use Rattle.model.specs.Bytes.{Bytes, u16s, put16, put32, put16s}
 use Rattle.model.specs.Framing.{putRecord}
-use Rattle.model.specs.Items.{headKind, arcKind, estimateKind, jobKind, measuredKind}
-use Rattle.model.specs.Items.{headBytes, arcBytes, estimateBytes, jobBytes, measuredBytes}
-use Rattle.model.specs.Jobs.{putHead, putArc, putMeasured, putEstimate, putJob, putCharged, putLane}
+use Rattle.model.specs.Items.{arcKind, jobKind, measuredKind, waitKind, arcBytes, jobBytes, measuredBytes}
+use Rattle.model.specs.Jobs.{putArc, putMeasured, putEstimate, putWait, putJob, putCharged, putLane}
 use Rattle.model.proofs.Bytes.{put16s-length, u16s-length, put16s-u16s}
 use Rattle.map.specs.declared.Job.{Job}
 use Rattle.sort.specs.Keys.{keyFrom, wordEnd}
 use Rattle.lane_rows.specs.Keys.{chargeIn, laneIn}
-use Rattle.map_records.specs.Puts.{Put, Fits, putNonzero, putJobOf, GoalsLast}
+use Rattle.map_records.specs.Puts.{Put, putValue, putNonzero, putJobOf, GoalsLast}
 
 -- how long a job record is
 pub put-job-length : (start allowance : ℕ) (goals : List ℕ) → length (putJob start allowance goals) ≡ 4 + jobBytes + 2 * length goals
@@ -36,10 +35,14 @@ pub header-fields : (at bytes kind : ℕ) (old : List ℕ) {s₁ out : List ℕ}
 unfolding put16
 header-fields at bytes kind old e₁ same e₂ = rw (e₂, e₁, same) (simp towards-suc)
 
-pub head-fields : (places arcs : ℕ) (old : List ℕ) {s₁ s₂ out : List ℕ} → s₁ ≡ sets old 0 (header headBytes headKind)
-    → s₂ ≡ sets s₁ 4 (put16 places) → out ≡ sets s₂ 6 (put16 arcs) → out ≡ sets old 0 (putHead places arcs)
-unfolding putHead putRecord put16
-head-fields places arcs old e₁ e₂ e₃ = rw (e₃, e₂, e₁)
+-- a record whose body is a field of 2 bytes and another field: a head, an estimate, a wait
+pub pair-fields : (at kind x : ℕ) (field old : List ℕ) {s₁ s₂ out : List ℕ} → s₁ ≡ sets old at (header (length (put16 x ++ field)) kind)
+    → s₂ ≡ sets s₁ (at + 4) (put16 x) → out ≡ sets s₂ (at + 6) field → out ≡ sets old at (putRecord kind (put16 x ++ field))
+unfolding putRecord put16
+pair-fields at kind x field old {s₂ = s₂} e₁ e₂ e₃ =
+    let front : List ℕ = header (length (put16 x ++ field)) kind ++ put16 x in
+    let first : s₂ ≡ sets old at front = rw (e₂, e₁) (simp towards-suc) in
+    sets-then old front field at (at + 6) refl first e₃
 
 pub arc-fields : (at from to cost : ℕ) (old : List ℕ) {s₁ s₂ s₃ out : List ℕ} → s₁ ≡ sets old at (header arcBytes arcKind)
     → s₂ ≡ sets s₁ (at + 4) (put16 from) → s₃ ≡ sets s₂ (at + 6) (put16 to) → out ≡ sets s₃ (at + 8) (put16 cost)
@@ -57,12 +60,14 @@ measured-fields at from to feet class old {s₄ = s₄} e₁ e₂ e₃ e₄ e₅
     let first : s₄ ≡ sets old at front = rw (e₄, e₃, e₂, e₁) (simp towards-suc) in
     sets-then old front (put16 class) at (at + 10) refl first e₅
 
-pub estimate-fields : (at v h : ℕ) (old : List ℕ) {s₁ s₂ out : List ℕ} → s₁ ≡ sets old at (header estimateBytes estimateKind)
-    → s₂ ≡ sets s₁ (at + 4) (put16 v) → out ≡ sets s₂ (at + 6) (put32 h) → out ≡ sets old at (putEstimate v h)
-unfolding putEstimate putRecord put16 put32
-estimate-fields at v h old e₁ e₂ e₃ = rw (e₃, e₂, e₁) (simp towards-suc)
+-- ---- Lanes, estimates and waits
 
--- ---- Lanes and estimates
+pub put-none : (at : ℕ) (old : List ℕ) → Put [] at old old at
+put-none at old = record { bytes = refl; end = omega arith }
+
+-- what is to be put is these bytes, and they are put
+pub put-as : {all new : List ℕ} {at : ℕ} {old out : List ℕ} → all ≡ new → out ≡ sets old at new → Put all at old out (at + length new)
+put-as is e = rw is (record { bytes = e; end = refl })
 
 -- the lane of a key, by the bit that says whether it is measured
 module _ (high low : ℕ) (below : low < wordEnd) where
@@ -76,48 +81,27 @@ module _ (high low : ℕ) (below : low < wordEnd) where
       let low-is : keyFrom high low % wordEnd ≡ low = omega arith in
       rw (high-is, low-is)
 
-  flat-lane : low / 32768 % 2 ≡ 0 → laneText ≡ putArc (high / 4096) (high % 4096) (low / 65536)
+  pub flat-lane : low / 32768 % 2 ≡ 0 → laneText ≡ putArc (high / 4096) (high % 4096) (low / 65536)
   unfolding chargeIn putCharged
   flat-lane even = lane-fields ∙ rw (eq-eqb (low / 32768 % 2) 0 even)
 
-  measured-lane : low / 32768 % 2 ≢ 0 → laneText ≡ putMeasured (high / 4096) (high % 4096) (low / 8 % 4096) (low % 8)
+  pub measured-lane : low / 32768 % 2 ≢ 0 → laneText ≡ putMeasured (high / 4096) (high % 4096) (low / 8 % 4096) (low % 8)
   unfolding chargeIn putCharged
   measured-lane odd = lane-fields ∙ rw (ne-eqb (low / 32768 % 2) 0 odd)
 
-  module _ (at : ℕ) (old : List ℕ) where
-    pub flat-lane-fits : low / 32768 % 2 ≡ 0 → Fits laneText at old → at + 10 ≤ length old
-    unfolding putArc putRecord put16
-    flat-lane-fits even fits = rw (flat-lane even) at fits
-
-    pub flat-lane-put : {out : List ℕ} → low / 32768 % 2 ≡ 0 → out ≡ sets old at (putArc (high / 4096) (high % 4096) (low / 65536))
-        → Put laneText at old out (at + 10)
-    unfolding putArc putRecord put16
-    flat-lane-put even e = rw (flat-lane even) (record { bytes = e; end = refl })
-
-    pub measured-lane-fits : low / 32768 % 2 ≢ 0 → Fits laneText at old → at + 12 ≤ length old
-    unfolding putMeasured putRecord put16
-    measured-lane-fits odd fits = rw (measured-lane odd) at fits
-
-    pub measured-lane-put : {out : List ℕ} → low / 32768 % 2 ≢ 0
-        → out ≡ sets old at (putMeasured (high / 4096) (high % 4096) (low / 8 % 4096) (low % 8)) → Put laneText at old out (at + 12)
-    unfolding putMeasured putRecord put16
-    measured-lane-put odd e = rw (measured-lane odd) (record { bytes = e; end = refl })
-
-pub put-none : (at : ℕ) (old : List ℕ) → Put [] at old old at
-put-none at old = record { bytes = refl; end = omega arith }
-
-module _ (v h at : ℕ) (old : List ℕ) where
-  pub zero-put : h ≡ 0 → Put (putNonzero v h) at old old at
+-- a number of a place, by whether it is 0, and by the kind
+module _ (kind v x : ℕ) where
+  pub none-of-zero : x ≡ 0 → putNonzero kind v x ≡ []
   unfolding putNonzero
-  zero-put zero = rw (eq-eqb h 0 zero) (put-none at old)
+  none-of-zero zero = rw (eq-eqb x 0 zero)
 
-  pub nonzero-fits : h ≢ 0 → Fits (putNonzero v h) at old → at + 10 ≤ length old
-  unfolding putNonzero putEstimate putRecord put16 put32
-  nonzero-fits some fits = rw (ne-eqb h 0 some) at fits
+  pub wait-of-nonzero : x ≢ 0 → kind ≡ waitKind → putNonzero kind v x ≡ putWait v x
+  unfolding putNonzero putValue
+  wait-of-nonzero some is = rw (ne-eqb x 0 some, eq-eqb kind waitKind is)
 
-  pub nonzero-put : {out : List ℕ} → h ≢ 0 → out ≡ sets old at (putEstimate v h) → Put (putNonzero v h) at old out (at + 10)
-  unfolding putNonzero putEstimate putRecord put16 put32
-  nonzero-put some e = rw (ne-eqb h 0 some) (record { bytes = e; end = refl })
+  pub estimate-of-nonzero : x ≢ 0 → kind ≢ waitKind → putNonzero kind v x ≡ putEstimate v x
+  unfolding putNonzero putValue
+  estimate-of-nonzero some other = rw (ne-eqb x 0 some, ne-eqb kind waitKind other)
 
 -- ---- The job
 

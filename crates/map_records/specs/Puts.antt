@@ -8,10 +8,11 @@ use lib.ListN.{length}
 use lib.Seq.{sets}
 use Rattle.model.specs.Bytes.{u16s}
 use Rattle.model.specs.Limits.{maxPlaces, maxArcs, maxGoals}
-use Rattle.model.specs.Jobs.{putHead, putEstimate, putJob, putLane}
+use Rattle.model.specs.Items.{estimateKind, waitKind}
+use Rattle.model.specs.Jobs.{putHead, putEstimate, putWait, putJob, putLane}
 use Rattle.map.specs.declared.Job.{Job}
 use Rattle.area.specs.Part.{part}
-use Rattle.layout.specs.Regions.{estimatesAt, goalsAt, arcsAt}
+use Rattle.layout.specs.Regions.{waitsAt, endsAt, estimatesAt, goalsAt, arcsAt}
 use Rattle.sort.specs.Keys.{keysOf}
 use Rattle.lane_rows.specs.Keys.{laneIn}
 
@@ -28,14 +29,18 @@ Fits new at out = at + length new ≤ length out
 unfoldable pub putLanes : List ℕ → List ℕ
 putLanes words = flatMap putLane (map laneIn (keysOf words))
 
--- a place's estimate, where it is not 0
-unfoldable pub putNonzero : (v h : ℕ) → List ℕ
-putNonzero v h = cond (eqb h 0) [] (putEstimate v h)
+-- a record of this kind that gives a place a number: a wait, or an estimate
+unfoldable pub putValue : (kind v x : ℕ) → List ℕ
+putValue kind v x = cond (eqb kind waitKind) (putWait v x) (putEstimate v x)
 
--- the estimates from place v on, one for each
-unfoldable pub putEstimates : ℕ → List ℕ → List ℕ
-putEstimates v [] = []
-putEstimates v (h ∷ hs) = putNonzero v h ++ putEstimates (v + 1) hs
+-- where the number is not 0
+unfoldable pub putNonzero : (kind v x : ℕ) → List ℕ
+putNonzero kind v x = cond (eqb x 0) [] (putValue kind v x)
+
+-- the numbers from place v on, one for each
+unfoldable pub putByPlace : (kind v : ℕ) → List ℕ → List ℕ
+putByPlace kind v [] = []
+putByPlace kind v (x ∷ xs) = putNonzero kind v x ++ putByPlace kind (v + 1) xs
 
 -- the job, whose goals are read from the input
 unfoldable pub putJobOf : List ℕ → Job → List ℕ
@@ -48,7 +53,8 @@ mapText input j w =
     let m = j .site .arcs in
     putHead n m
     ++ putLanes (part (arcsAt n) (arcsAt n + 2 * m) w)
-    ++ putEstimates 0 (part (estimatesAt n) (goalsAt n) w)
+    ++ putByPlace estimateKind 0 (part (estimatesAt n) (goalsAt n) w)
+    ++ putByPlace waitKind 0 (part (waitsAt n) (endsAt n) w)
     ++ putJobOf input j
 
 -- the job's goals are the rest of the input, and few

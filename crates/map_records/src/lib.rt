@@ -7,11 +7,11 @@ ghost use Prim.Native.Nat.{_+_, _≤_};
 ghost use lib.ListN.{length};
 ghost use lib.Seq.{sets};
 ghost use Rattle.model.specs.Bytes.{put16 as bytes16};
-ghost use Rattle.model.specs.Jobs.{putHead, putArc, putMeasured, putEstimate, putLane};
+ghost use Rattle.model.specs.Jobs.{putHead, putArc, putMeasured, putEstimate, putWait, putLane};
 ghost use Rattle.model.specs.Limits.{maxPlaces, maxArcs};
 ghost use Rattle.sort.specs.Keys.{keyFrom};
 ghost use Rattle.lane_rows.specs.Keys.{laneIn};
-ghost use Rattle.map_records.specs.Puts.{Put, Fits, putLanes, putNonzero, putEstimates, putJobOf, mapText, GoalsLast, Puttable};
+ghost use Rattle.map_records.specs.Puts.{Put, Fits, putLanes, putNonzero, putByPlace, putJobOf, mapText, GoalsLast, Puttable};
 
 // How long a record is, and what its first two fields say.
 const HEADER: usize = record::HEADER;
@@ -23,6 +23,8 @@ const ARC: usize = HEADER + record::ARC_BYTES;
 const MEASURED: usize = HEADER + record::MEASURED_BYTES;
 
 const ESTIMATE: usize = HEADER + record::ESTIMATE_BYTES;
+
+const WAIT: usize = HEADER + record::WAIT_BYTES;
 
 const JOB: usize = HEADER + record::GOALS;
 
@@ -107,14 +109,10 @@ fn put_lanes(out: &mut [u8], start: usize, words: &[u32]) -> usize
     at
 }
 
-// The estimate of a place, where it is not 0.
-fn put_nonzero(out: &mut [u8], at: usize, place: usize, value: u32) -> usize
-    requires { ⌜ (place ≤ maxPlaces) × Fits (putNonzero place value) at (now out) ⌝ }
-    ensures { λ r. ⌜ Put (putNonzero place value) at (now (out .entry)) (now (out .exit)) r ⌝ }
+fn put_estimate(out: &mut [u8], at: usize, place: usize, value: u32)
+    requires { ⌜ (place ≤ maxPlaces) × (at + 10 ≤ length (now out)) ⌝ }
+    ensures { λ _. ⌜ now (out .exit) ≡ sets (now (out .entry)) at (putEstimate place value) ⌝ }
 {
-    if value == 0 {
-        return at;
-    }
     put_header(
         out,
         at,
@@ -123,18 +121,42 @@ fn put_nonzero(out: &mut [u8], at: usize, place: usize, value: u32) -> usize
     );
     area::put16(out, at + 4, place as u32);
     area::put32(out, at + 6, value);
+}
+
+fn put_wait(out: &mut [u8], at: usize, place: usize, value: u32)
+    requires { ⌜ (place ≤ maxPlaces) × (at + 8 ≤ length (now out)) ⌝ }
+    ensures { λ _. ⌜ now (out .exit) ≡ sets (now (out .entry)) at (putWait place value) ⌝ }
+{
+    put_header(out, at, record::WAIT_BYTES as u32, record::WAIT_KIND);
+    area::put16(out, at + 4, place as u32);
+    area::put16(out, at + 6, value);
+}
+
+// The number of a place, where it is not 0, as a record of this kind: an estimate, or a wait.
+fn put_nonzero(out: &mut [u8], at: usize, kind: u16, place: usize, value: u32) -> usize
+    requires { ⌜ (place ≤ maxPlaces) × Fits (putNonzero kind place value) at (now out) ⌝ }
+    ensures { λ r. ⌜ Put (putNonzero kind place value) at (now (out .entry)) (now (out .exit)) r ⌝ }
+{
+    if value == 0 {
+        return at;
+    }
+    if kind == record::WAIT_KIND {
+        put_wait(out, at, place, value);
+        return at + WAIT;
+    }
+    put_estimate(out, at, place, value);
     at + ESTIMATE
 }
 
-// The estimates of all places, which are the words in order.
-fn put_estimates(out: &mut [u8], start: usize, words: &[u32]) -> usize
-    requires { ⌜ (length (now words) ≤ maxPlaces) × Fits (putEstimates 0 (now words)) start (now out) ⌝ }
-    ensures { λ r. ⌜ Put (putEstimates 0 (now (words .entry))) start (now (out .entry)) (now (out .exit)) r ⌝ }
+// The numbers of all places, which are the words in order.
+fn put_by_place(out: &mut [u8], start: usize, kind: u16, words: &[u32]) -> usize
+    requires { ⌜ (length (now words) ≤ maxPlaces) × Fits (putByPlace kind 0 (now words)) start (now out) ⌝ }
+    ensures { λ r. ⌜ Put (putByPlace kind 0 (now (words .entry))) start (now (out .entry)) (now (out .exit)) r ⌝ }
 {
     let mut at = start;
     let mut v = 0;
     while v < words.len() {
-        at = put_nonzero(out, at, v, words[v]);
+        at = put_nonzero(out, at, kind, v, words[v]);
         v += 1;
     }
     at
@@ -157,7 +179,7 @@ fn put_job(out: &mut [u8], at: usize, input: &[u8], job: Job) -> usize
     at + HEADER + body
 }
 
-// The map that the words hold: lanes in the order of their keys, estimates by place; then the job.
+// The map that the words hold: lanes in the order of their keys, estimates and waits by place; then the job.
 pub fn put_map(out: &mut [u8], input: &[u8], job: Job, work: &[u32]) -> usize
     requires { ⌜ Puttable (now input) job (now work) (now out) ⌝ }
     ensures { λ r. ⌜ Put (mapText (now (input .entry)) job (now (work .entry))) 0 (now (out .entry)) (now (out .exit)) r ⌝ }
@@ -170,6 +192,9 @@ pub fn put_map(out: &mut [u8], input: &[u8], job: Job, work: &[u32]) -> usize
     let lanes_end = put_lanes(out, HEAD, &work[start..end]);
     let first = layout::estimates_at(places);
     let last = layout::goals_at(places);
-    let estimates_end = put_estimates(out, lanes_end, &work[first..last]);
-    put_job(out, estimates_end, input, job)
+    let waits = layout::waits_at(places);
+    let ends = layout::ends_at(places);
+    let estimates_end = put_by_place(out, lanes_end, record::ESTIMATE_KIND, &work[first..last]);
+    let waits_end = put_by_place(out, estimates_end, record::WAIT_KIND, &work[waits..ends]);
+    put_job(out, waits_end, input, job)
 }

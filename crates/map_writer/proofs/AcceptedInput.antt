@@ -10,7 +10,6 @@ use Rattle.area.proofs.Sets.{sets-front}
 use Rattle.map.specs.declared.Job.{Job}
 use Rattle.map.specs.Sizes.{wordsOf}
 use Rattle.model.specs.Framing.{frame}
-use Rattle.model.specs.Bytes.{Bytes}
 use Rattle.model.specs.Limits.{maxGoals}
 use Rattle.model.specs.Stated.{statedIn}
 use Rattle.model.specs.Refusals.{workWords, sheetBytes, shortWork, shortSheet, roomRows, firstOf, firstThatHolds, inputRefusal}
@@ -33,7 +32,7 @@ use Rattle.map_writer.proofs.WrittenAccepted.{input-passing}
 use Rattle.map_writer.proofs.Shorter.{written-shorter}
 use Rattle.map_writer.proofs.MapText.{text-written, text-short}
 
-module _ (input : List ℕ) (j : Job) (work output : List ℕ) (B : Bytes input) (has : HasRoom input j work output) where
+module _ (input : List ℕ) (j : Job) (work output : List ℕ) (has : HasRoom input j work output) where
   abbrev n : ℕ
   n = j .site .places
 
@@ -66,7 +65,7 @@ module _ (input : List ℕ) (j : Job) (work output : List ℕ) (B : Bytes input)
       }
 
   facts : Known input j (length work)
-  facts = known input j work B loadable
+  facts = known input j work loadable
 
   goals : j .goals ≤ maxGoals
   goals =

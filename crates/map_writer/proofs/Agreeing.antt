@@ -2,28 +2,28 @@
 -- form. Assumes nothing.
 use mathlib.Core.Path.{_≡_, refl, sym, ap, ap₂, _∙_}
 use mathlib.Core.Logic.{_↔_}
-use mathlib.Core.Bool.{Bool, true, not, false≢true}
+use mathlib.Core.Bool.{Bool, true, false≢true}
 use mathlib.Core.List.{List, [], _∷_, map, List·Memᴰ, List·Memᴰ·head, List·Memᴰ·tail}
 use Prim.Native.Nat.{ℕ, _+_, _≤_, _<_}
 use native.Mathlib.Omega.{arith}
 use lib.Dec.{eqb}
 use lib.ListN.{length}
 use borrow.Author.Tests.{eqb-true, eq-eqb}
-use Rattle.model.specs.Lists.{filter, below}
+use Rattle.model.specs.Lists.{filter}
 use Rattle.model.specs.Limits.{maxPlaces}
-use Rattle.model.specs.Items.{Charge, flat, measured, Lane, Estimate}
-use Rattle.model.specs.Stated.{Stated, lookup}
+use Rattle.model.specs.Items.{Charge, flat, measured, Lane}
+use Rattle.model.specs.Stated.{Stated, lookup, waitAt}
 use Rattle.model.proofs.Lists.{both, filter-member, filter-all}
 use Rattle.load.specs.Load.{Fit}
 use Rattle.sort.specs.Sorting.{sortBy, oneIf}
 use Rattle.sort.proofs.SortLaws.{filter-cons, sort-filter, sort-member}
 use Rattle.sort.proofs.SortedNumbers.{same-sorts}
 use Rattle.map_writer.specs.Order.{noLater}
-use Rattle.map_writer.specs.Canonical.{estimatesByPlace, canonical}
+use Rattle.map_writer.specs.Canonical.{canonical}
 use Rattle.map_writer.specs.Agree.{sameCharge, sameLane, copies, Agree}
 use Rattle.lane_rows.specs.Keys.{keyOf, laneIn}
 use Rattle.map_writer.proofs.KeyLaws.{keys-back, sorted-keys}
-use Rattle.map_writer.proofs.EstimateLaws.{EstimatesInside, canonical-lookup}
+use Rattle.map_writer.proofs.PlaceValues.{by-place-same, ValuesInside, canonical-estimate, canonical-wait}
 
 -- ---- the test of equality
 same-charge : (c d : Charge) → sameCharge c d ≡ true → c ≡ d
@@ -130,6 +130,7 @@ agree-back s t a =
       places = sym (a .places);
       lanes = λ l. sym (a .lanes l);
       estimates = λ v. sym (a .estimates v);
+      waits = λ v. sym (a .waits v);
       job = sym (a .job);
     }
 
@@ -139,29 +140,32 @@ agree-then s t u a b =
       places = a .places ∙ b .places;
       lanes = λ l. a .lanes l ∙ b .lanes l;
       estimates = λ v. a .estimates v ∙ b .estimates v;
+      waits = λ v. a .waits v ∙ b .waits v;
       job = a .job ∙ b .job;
     }
 
-pub canonical-agrees : (s : Stated) → EstimatesInside s → Agree s (canonical s)
+pub canonical-agrees : (s : Stated) → ValuesInside s → Agree s (canonical s)
 unfolding canonical copies
 canonical-agrees s inside =
     record {
       places = refl;
       lanes = λ l. sym (sort-filter (noLater (s .factors)) (sameLane l) (s .lanes));
-      estimates = λ v. sym (canonical-lookup s inside v);
+      estimates = λ v. sym (canonical-estimate s inside v);
+      waits = λ v. sym (canonical-wait s inside v);
       job = refl;
     }
 
 -- what a canonical form depends on
 canonical-same : (s t : Stated) → s .size ≡ t .size → sortBy (noLater (s .factors)) (s .lanes) ≡ sortBy (noLater (t .factors)) (t .lanes)
     → s .factors ≡ t .factors → s .growth ≡ t .growth → s .job ≡ t .job
-    → ((v : ℕ) → lookup 0 (s .estimates) v ≡ lookup 0 (t .estimates) v) → canonical s ≡ canonical t
-unfolding canonical estimatesByPlace
-canonical-same s t size lanes factors growth job looks i =
+    → ((v : ℕ) → lookup 0 (s .estimates) v ≡ lookup 0 (t .estimates) v) → ((v : ℕ) → waitAt s v ≡ waitAt t v) → canonical s ≡ canonical t
+unfolding canonical waitAt
+canonical-same s t size lanes factors growth job estimates waits i =
     record {
       size = size i;
       lanes = lanes i;
-      estimates = filter (λ (e : Estimate). not (eqb (e .value) 0)) (map (λ v. record { place = v; value = looks v i }) (below (size i .places)));
+      estimates = by-place-same _ _ (s .estimates) (t .estimates) (λ j. size j .places) estimates i;
+      waits = by-place-same _ _ (s .waits) (t .waits) (λ j. size j .places) waits i;
       factors = factors i;
       growth = growth i;
       job = job i;
@@ -172,7 +176,7 @@ pub agree-canonical : (s t : Stated) → s .factors ≡ t .factors → s .growth
     → ((l : Lane) → List·Memᴰ l (s .lanes) → Fit (s .size .places) (s .factors) l)
     → ((l : Lane) → List·Memᴰ l (t .lanes) → Fit (t .size .places) (t .factors) l)
     → Agree s t → canonical s ≡ canonical t
-agree-canonical s t factors growth arcs arcs' few fits fits' a = canonical-same s t size lanes factors growth (a .job) (a .estimates)
+agree-canonical s t factors growth arcs arcs' few fits fits' a = canonical-same s t size lanes factors growth (a .job) (a .estimates) (a .waits)
   where
     lengths : length (s .lanes) ≡ length (t .lanes)
     lengths =

@@ -1,18 +1,18 @@
 -- The canonical form of what passes the conditions passes them too, and fits in the bytes of its records. Assumes nothing.
-use mathlib.Core.Path.{_≡_, refl}
+use mathlib.Core.Path.{_≡_}
 use mathlib.Core.Bool.{Bool, false, _||_}
-use mathlib.Core.List.{List·Memᴰ}
+use mathlib.Core.List.{List, List·Memᴰ}
 use Prim.Native.Nat.{ℕ, _^_, _≤_, _<_}
 use native.Mathlib.Omega.{arith}
 use lib.Dec.{ltb, leb}
 use lib.ListN.{length}
 use borrow.Author.Tests.{ltb-false, leb-false, le-ltb, lt-leb, eqb-true, not-false}
-use Rattle.model.specs.Lists.{any}
+use Rattle.model.specs.Lists.{any, repeats}
 use Rattle.model.specs.Limits.{maxPlaces, maxArcs, maxCost, maxEstimate, maxGoals}
-use Rattle.model.specs.Items.{Charge, flat, measured, Lane}
-use Rattle.model.specs.Stated.{Stated, fixedFactors, lookup}
-use Rattle.model.specs.Refusals.{wrongSize, outsideMap, freeArc, largeEstimate, twoEstimates, mismeasured, wrongMeasure}
-use Rattle.model.specs.Refusals.{jobOutsideMap, wrongGoals, goalEstimate}
+use Rattle.model.specs.Items.{Charge, flat, measured, Lane, PlaceValue}
+use Rattle.model.specs.Stated.{Stated, fixedFactors, lookup, costUnder, laneCost, arcOf}
+use Rattle.model.specs.Refusals.{wrongSize, placesIn, namesOutside, outsideMap, freeArc, largeEstimate, twoEstimates, mismeasured, wrongMeasure}
+use Rattle.model.specs.Refusals.{wrongWait, jobOutsideMap, wrongGoals, goalEstimate}
 use Rattle.model.proofs.Lists.{neither, any-false}
 use Rattle.model.proofs.Tests.{any-none, or-none}
 use Rattle.model.proofs.Charges.{length-below, class-below}
@@ -20,8 +20,8 @@ use Rattle.model.proofs.Acceptance.{lookup-below}
 use Rattle.sort.specs.Sorting.{sortBy}
 use Rattle.sort.proofs.SortLaws.{sort-member, sort-length}
 use Rattle.map_writer.specs.Order.{noLater}
-use Rattle.map_writer.specs.Canonical.{canonical}
-use Rattle.map_writer.proofs.EstimateLaws.{EstimatesInside, canonical-lookup, canonical-estimate, canonical-single}
+use Rattle.map_writer.specs.Canonical.{nonzeroByPlace, canonical}
+use Rattle.map_writer.proofs.PlaceValues.{by-place-member, by-place-single, Inside, ValuesInside, canonical-estimate, canonical-arc}
 use Rattle.map_writer.proofs.WrittenRecords.{StorableCharge, Storable}
 
 -- no condition on what is stated holds
@@ -32,9 +32,18 @@ pub record Passing (s : Stated) : Type 0 where
   pub small : largeEstimate s ≡ false
   pub single : twoEstimates s ≡ false
   pub in-measure : wrongMeasure s ≡ false
+  pub waits : wrongWait s ≡ false
   pub job-inside : jobOutsideMap s ≡ false
   pub goals : wrongGoals s ≡ false
   pub zero-goals : goalEstimate s ≡ false
+
+-- ---- numbers of the first n places
+-- they name no place of n or above
+named-inside : (n : ℕ) (xs : List PlaceValue) → namesOutside n xs ≡ false → Inside n xs
+named-inside n xs none x i = leb-false n (x .place) (any-false _ xs none x i)
+
+by-place-inside : (n : ℕ) (xs : List PlaceValue) → namesOutside n (nonzeroByPlace n xs) ≡ false
+by-place-inside n xs = any-none _ (nonzeroByPlace n xs) λ x i. lt-leb n (x .place) (by-place-member n xs x i .0)
 
 -- ---- what passing gives
 module _ (s : Stated) (p : Passing s) where
@@ -57,14 +66,25 @@ module _ (s : Stated) (p : Passing s) where
   pub lane-inside : (l : Lane) → List·Memᴰ l (s .lanes) → (l .from < s .size .places) × (l .to < s .size .places)
   unfolding outsideMap
   lane-inside l i =
-      let ends = neither (leb (s .size .places) (l .from)) _ (any-false _ (s .lanes) (neither _ _ (p .inside) .0) l i) in
+      let ends = neither (leb (s .size .places) (l .from)) _ (any-false _ (s .lanes) (neither _ _ (neither _ _ (p .inside) .0) .0) l i) in
       (leb-false _ (l .from) (ends .0), leb-false _ (l .to) (ends .1))
 
-  pub estimates-inside : EstimatesInside s
+  pub values-inside : ValuesInside s
   unfolding outsideMap
-  estimates-inside e i =
-      let lanes : Bool = any (λ (l : Lane). leb (s .size .places) (l .from) || leb (s .size .places) (l .to)) (s .lanes) in
-      leb-false _ (e .place) (any-false _ (s .estimates) (neither lanes _ (p .inside) .1) e i)
+  values-inside =
+      let n = s .size .places in
+      let lanes : Bool = any (λ (l : Lane). leb n (l .from) || leb n (l .to)) (s .lanes) in
+      let (others, waits) = neither (lanes || namesOutside n (s .estimates)) _ (p .inside) in
+      record { estimates = named-inside n (s .estimates) (neither lanes _ others .1); waits = named-inside n (s .waits) waits }
+
+  arc-cheap : (l : Lane) → List·Memᴰ l (s .lanes) → arcOf s l .cost ≤ maxCost
+  unfolding wrongWait
+  arc-cheap l i = ltb-false maxCost _ (any-false _ (s .lanes) (neither (repeats (placesIn (s .waits))) _ (p .waits) .1) l i)
+
+  -- a lane costs no more than its arc, which has a wait in its cost
+  pub lane-cheap : (l : Lane) → List·Memᴰ l (s .lanes) → costUnder (s .factors) (l .charge) ≤ maxCost
+  unfolding laneCost arcOf
+  lane-cheap l i = omega (arith, arc-cheap l i)
 
   pub estimate-small : (v : ℕ) → lookup 0 (s .estimates) v ≤ maxEstimate
   unfolding largeEstimate
@@ -99,20 +119,28 @@ module _ (s : Stated) (p : Passing s) where
   inside-map : outsideMap (canonical s) ≡ false
   unfolding outsideMap canonical
   inside-map =
-      or-none (any _ (canonical s .lanes)) _ (sorted-none _ (neither _ _ (p .inside) .0))
-      (any-none _ (canonical s .estimates) λ e i. lt-leb _ (e .place) (canonical-estimate s e i .0))
+      let lanes = sorted-none _ (neither _ _ (neither _ _ (p .inside) .0) .0) in
+      let estimates = by-place-inside (s .size .places) (s .estimates) in
+      or-none _ _ (or-none (any _ (canonical s .lanes)) _ lanes estimates) (by-place-inside (s .size .places) (s .waits))
 
   no-large-estimate : largeEstimate (canonical s) ≡ false
-  unfolding largeEstimate
+  unfolding largeEstimate canonical
   no-large-estimate =
       any-none _ (canonical s .estimates)
-      λ e i. le-ltb maxEstimate (e .value) (rw (canonical-estimate s e i .1) (estimate-small (e .place)))
+      λ e i. le-ltb maxEstimate (e .value) (rw (by-place-member (s .size .places) (s .estimates) e i .1) (estimate-small (e .place)))
+
+  cheap-arcs : wrongWait (canonical s) ≡ false
+  unfolding wrongWait canonical
+  cheap-arcs =
+      or-none (repeats (placesIn (canonical s .waits))) _ (by-place-single (s .size .places) (s .waits))
+      (any-none _ (canonical s .lanes) λ l i.
+      rw (canonical-arc s values-inside l) (le-ltb maxCost _ (arc-cheap l (sort-member (noLater (s .factors)) (s .lanes) l .0 i))))
 
   goals-zero : goalEstimate (canonical s) ≡ false
   unfolding goalEstimate canonical
   goals-zero =
       any-none _ (s .job .goals)
-      λ g i. rw (canonical-lookup s estimates-inside g) (any-false _ (s .job .goals) (p .zero-goals) g i)
+      λ g i. rw (canonical-estimate s values-inside g) (any-false _ (s .job .goals) (p .zero-goals) g i)
 
   pub canonical-passing : Passing (canonical s)
   unfolding canonical freeArc twoEstimates wrongMeasure jobOutsideMap wrongGoals
@@ -122,8 +150,9 @@ module _ (s : Stated) (p : Passing s) where
         inside = inside-map;
         paid = sorted-none _ (p .paid);
         small = no-large-estimate;
-        single = canonical-single s;
+        single = by-place-single (s .size .places) (s .estimates);
         in-measure = sorted-none _ (p .in-measure);
+        waits = cheap-arcs;
         job-inside = p .job-inside;
         goals = p .goals;
         zero-goals = goals-zero;
@@ -131,16 +160,17 @@ module _ (s : Stated) (p : Passing s) where
 
   -- ---- the canonical form can be stored
 
-  charge-storable : (c : Charge) → ((cost : ℕ) → c ≡ flat cost → cost ≤ maxCost) → mismeasured c ≡ false → StorableCharge c
-  charge-storable (flat cost) small ok = omega (arith, small cost refl)
+  charge-storable : (c : Charge) → costUnder (s .factors) c ≤ maxCost → mismeasured c ≡ false → StorableCharge c
+  unfolding costUnder
+  charge-storable (flat cost) small ok = omega arith
   charge-storable (measured length class) small ok =
       (omega (arith, length-below length class ok), omega (arith, class-below length class ok))
 
-  -- where its flat costs and its allowance are numbers of 2 and of 4 bytes
-  pub canonical-storable : ((l : Lane) → List·Memᴰ l (s .lanes) → (cost : ℕ) → l .charge ≡ flat cost → cost ≤ maxCost)
-      → s .job .allowance < 2 ^ 32 → s .factors ≡ fixedFactors → s .growth ≡ 2 → Storable (canonical s)
+  -- where its waits and its allowance are numbers of 2 and of 4 bytes
+  pub canonical-storable : ((w : PlaceValue) → List·Memᴰ w (s .waits) → w .value < 65536) → s .job .allowance < 2 ^ 32
+      → s .factors ≡ fixedFactors → s .growth ≡ 2 → Storable (canonical s)
   unfolding canonical wrongMeasure
-  canonical-storable cheap allowed factors growth =
+  canonical-storable short allowed factors growth =
       record {
         places = omega (arith, few-places);
         arcs = omega (arith, few-arcs);
@@ -150,11 +180,15 @@ module _ (s : Stated) (p : Passing s) where
             record {
               from = omega (arith, few-places, ends .0);
               to = omega (arith, few-places, ends .1);
-              charge = charge-storable (l .charge) (cheap l j) (any-false _ (s .lanes) (p .in-measure) l j);
+              charge = charge-storable (l .charge) (lane-cheap l j) (any-false _ (s .lanes) (p .in-measure) l j);
             };
         estimates = λ e i.
-            let (place, value) = canonical-estimate s e i in
+            let (place, value) = by-place-member (s .size .places) (s .estimates) e i in
             record { place = omega (arith, few-places); value = omega (arith, estimate-small (e .place)) };
+        waits = λ w i.
+            let (place, value) = by-place-member (s .size .places) (s .waits) w i in
+            let below = lookup-below (s .waits) 65535 (λ x j. omega (arith, short x j)) (w .place) in
+            record { place = omega (arith, few-places); value = omega arith };
         job =
             record {
               start = omega (arith, few-places, start-inside);

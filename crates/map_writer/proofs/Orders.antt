@@ -12,7 +12,7 @@ use Rattle.model.specs.Sums.{sumBelow}
 use Rattle.model.specs.Stated.{Stated, statedIn}
 use Rattle.model.proofs.Sums.{sum-within}
 use Rattle.map.specs.declared.Job.{Job}
-use Rattle.layout.specs.Regions.{estimatesAt, arcsAt}
+use Rattle.layout.specs.Regions.{waitsAt, estimatesAt, arcsAt}
 use Rattle.layout.specs.Map.{rowStart, rowEnd}
 use Rattle.load.specs.Load.{lanesFrom, countFrom, begins}
 use Rattle.load.specs.Loaded.{Prepared}
@@ -107,6 +107,10 @@ module _ (input : List ℕ) (j : Job) (w₀ : List ℕ) (facts : Known input j (
                   same-before (arcsAt n) w₂ w (estimatesAt n + v) (sorted .front) (omega arith)
                   ∙ placed .estimates v l
                   ∙ before .estimates v l;
+              waits = λ v l.
+                  same-before (arcsAt n) w₂ w (waitsAt n + v) (sorted .front) (omega arith)
+                  ∙ placed .waits v l
+                  ∙ before .waits v l;
               rest =
                   less-after (16 * n + 2 * j .site .arcs) (arcsAt n + 2 * last) w₂ w (omega (arith, all, facts .arcs)) (sorted .rest)
                   ∙ less-after (16 * n + 2 * j .site .arcs) (arcsAt n + 2 * m) w₁ w₂ (omega (arith, facts .arcs)) (placed .rest)

@@ -22,7 +22,7 @@ use Rattle.map_writer.specs.Canonical.{canonical, putStated, write}
 use Rattle.map_writer.specs.Agree.{Agree}
 use Rattle.map_writer.specs.Call.{writeRows, writeRefusal, Writable, writtenWith, writeIf, writeMap}
 use Rattle.map_writer.proofs.Agreeing.{agree-back, agree-then, canonical-agrees, agree-canonical}
-use Rattle.map_writer.proofs.CanonicalPasses.{few-places, counted-arcs, estimates-inside}
+use Rattle.map_writer.proofs.CanonicalPasses.{few-places, counted-arcs, values-inside}
 use Rattle.map_writer.proofs.WrittenAccepted.{input-passing, stated-fit, written-states, written-passes}
 use Rattle.map_writer.proofs.Shorter.{written-shorter}
 use Rattle.map_writer.proofs.SameRoute.{written-routes}
@@ -60,7 +60,8 @@ pub record Rewrites (P R : Program) (c : Call) (r : Result) : Type 0 where
   -- it is no longer than the input, and is accepted where the input was
   pub shorter : length (written r) ≤ length (c .input)
   pub accepted : (words bytes : ℕ) → Writable (c .input) words bytes → Writable (written r) words bytes
-  -- "Reading the result gives the same N, arc records as a collection with repeats, estimates and job."
+  -- "Reading the result gives the same N, arc records as a collection with repeats, estimates and job"; waits too, as paper 5 has it: the writer's
+  -- "agreement covers them"
   pub agrees : Agree (statedIn (c .input)) (statedIn (written r))
   -- so writing twice is writing once
   pub again : (d : Call) (q : Result) → P d q → d .input ≡ written r → q .answer .number ≡ 0 → written q ≡ written r
@@ -95,8 +96,8 @@ module _ (a b : List ℕ) (A : Bytes a) (B : Bytes b) (p : inputRefusal (frame a
   alike-agree : write (statedIn a) ≡ write (statedIn b) → Agree (statedIn a) (statedIn b)
   alike-agree e =
       let same : canonical (statedIn a) ≡ canonical (statedIn b) = sym (written-states a A p) ∙ ap statedIn e ∙ written-states b B q in
-      let first = canonical-agrees (statedIn a) (estimates-inside _ (input-passing (frame a) p)) in
-      let second = canonical-agrees (statedIn b) (estimates-inside _ (input-passing (frame b) q)) in
+      let first = canonical-agrees (statedIn a) (values-inside _ (input-passing (frame a) p)) in
+      let second = canonical-agrees (statedIn b) (values-inside _ (input-passing (frame b) q)) in
       agree-then (statedIn a) (canonical (statedIn b)) (statedIn b) (rw same at first) (agree-back (statedIn b) (canonical (statedIn b)) second)
 
   agree-alike : Agree (statedIn a) (statedIn b) → write (statedIn a) ≡ write (statedIn b)
@@ -107,7 +108,7 @@ module _ (a b : List ℕ) (A : Bytes a) (B : Bytes b) (p : inputRefusal (frame a
       let factors = states-factors (frame a .records) ∙ sym (states-factors (frame b .records)) in
       let growth = states-growth (frame a .records) ∙ sym (states-growth (frame b .records)) in
       ap putStated (agree-canonical (statedIn a) (statedIn b) factors growth (counted-arcs _ x) (counted-arcs _ y) (few-places _ x)
-      (stated-fit a A p) (stated-fit b B q) e)
+      (stated-fit a p) (stated-fit b q) e)
 
 module _ (P R : Program) (writes : KeepsTo rewritten P) (routes : Keeps R) where
   alike : (c d : Call) → rewritten c .answer .number ≡ 0 → rewritten d .answer .number ≡ 0
@@ -126,7 +127,7 @@ module _ (P R : Program) (writes : KeepsTo rewritten P) (routes : Keeps R) where
     reads = written-states (c .input) (c .bytes) (passes c x)
 
     agrees : Agree (statedIn (c .input)) (statedIn b)
-    agrees = rw reads (canonical-agrees (statedIn (c .input)) (estimates-inside _ (input-passing (frame (c .input)) (passes c x))))
+    agrees = rw reads (canonical-agrees (statedIn (c .input)) (values-inside _ (input-passing (frame (c .input)) (passes c x))))
 
     accepted : (words bytes : ℕ) → Writable (c .input) words bytes → Writable b words bytes
     unfolding canonical

@@ -3,7 +3,7 @@ use mathlib.Core.Path.{_≡_, refl, sym, ap, ap₂, _∙_}
 use mathlib.Core.Bool.{false, not}
 use mathlib.Core.List.{List, [], _∷_, _++_, map, headD, append-nil, List·Memᴰ, List·Memᴰ·head, List·Memᴰ·tail}
 use mathlib.Core.Option.{Option, none, some}
-use Prim.Native.Nat.{ℕ, zero, suc, _<_}
+use Prim.Native.Nat.{ℕ, zero, suc, _^_, _<_}
 use native.Mathlib.Omega.{arith}
 use lib.Dec.{eqb}
 use lib.ListN.{length, getD}
@@ -11,17 +11,17 @@ use borrow.Author.Tests.{eq-eqb}
 use Rattle.model.specs.Lists.{any, filterMap, consIf}
 use Rattle.model.specs.Bytes.{u16, u32, u16s, put16, put32, put16s}
 use Rattle.model.specs.Framing.{Record, Framed}
-use Rattle.model.specs.Items.{Size, Charge, flat, measured, Lane, Estimate, Job, Item, head, lane, estimate, job}
-use Rattle.model.specs.Items.{headOf, laneOf, measuredOf, estimateOf, jobOf, itemOf, items, sizeIn, laneIn, estimateIn, jobIn}
+use Rattle.model.specs.Items.{Size, Charge, flat, measured, Lane, PlaceValue, Job, Item, head, lane, estimate, job, wait}
+use Rattle.model.specs.Items.{headOf, laneOf, measuredOf, estimateOf, jobOf, waitOf, itemOf, items, sizeIn, laneIn, estimateIn, jobIn, waitIn}
 use Rattle.model.specs.Items.{chargeBytes, bodyLength, otherThan, misfits}
 use Rattle.model.specs.Stated.{Stated, noJob, statedBy, stated, statedIn}
 use Rattle.model.specs.Refusals.{wrongLength}
 use Rattle.model.proofs.Bytes.{two-bytes, u16-put16, u32-put32, u16s-put16s}
 use Rattle.model.proofs.Tests.{or-none}
 use Rattle.map_writer.specs.Canonical.{putStated}
-pub use Rattle.map_writer.proofs.WrittenRecords.{StorableCharge, StorableLane, StorableEstimate, StorableJob, Storable}
-pub use Rattle.map_writer.proofs.WrittenRecords.{headRecord, chargedRecord, laneRecord, estimateRecord, jobRecord, recordsOf}
-pub use Rattle.map_writer.proofs.WrittenRecords.{put-records, put-bytes, put-framed}
+pub use Rattle.map_writer.proofs.WrittenRecords.{StorableCharge, StorableLane, StorableValue, StorableJob, Storable}
+pub use Rattle.map_writer.proofs.WrittenRecords.{headRecord, chargedRecord, laneRecord, estimateRecord, waitRecord, jobRecord, recordsOf}
+pub use Rattle.map_writer.proofs.WrittenRecords.{put-records, put-framed}
 use Rattle.map_writer.proofs.WrittenRecords.{jobFront, job-length}
 
 -- ---- the fields are read back
@@ -40,13 +40,17 @@ lane-read l ok = go (l .charge) (ok .charge)
     go (measured length class) (h, k) =
         rw (two-bytes (l .from) (ok .from), two-bytes (l .to) (ok .to), two-bytes length h, two-bytes class k)
 
-estimate-read : (e : Estimate) → StorableEstimate e → itemOf (estimateRecord e) ≡ estimate e
+estimate-read : (e : PlaceValue) → StorableValue (2 ^ 32) e → itemOf (estimateRecord e) ≡ estimate e
 unfolding estimateRecord itemOf estimateOf put16
 estimate-read e ok =
     let b : List ℕ = put16 (e .place) ++ put32 (e .value) in
     let place : u16 b 0 ≡ e .place = u16-put16 [] (e .place) (put32 (e .value)) (ok .place) in
     let value : u32 b 2 ≡ e .value = rw append-nil at (u32-put32 (put16 (e .place)) (e .value) [] (ok .value)) in
     rw (place, value)
+
+wait-read : (w : PlaceValue) → StorableValue 65536 w → itemOf (waitRecord w) ≡ wait w
+unfolding waitRecord itemOf waitOf u16 put16
+wait-read w ok = rw (two-bytes (w .place) (ok .place), two-bytes (w .value) (ok .value))
 
 members-below : (gs : List ℕ) → ((g : ℕ) → List·Memᴰ g gs → g < 65536) → (i : ℕ) → getD gs i 0 < 65536
 members-below [] h i = omega arith
@@ -72,29 +76,27 @@ job-read j ok =
 -- ---- what the records say
 
 unfoldable pub itemsOf : Stated → List Item
-itemsOf t = head (t .size) ∷ (map lane (t .lanes) ++ (map estimate (t .estimates) ++ (job (t .job) ∷ [])))
+itemsOf t = head (t .size) ∷ (map lane (t .lanes) ++ (map estimate (t .estimates) ++ (map wait (t .waits) ++ (job (t .job) ∷ []))))
 
--- records that each say what g gives, before others
+-- records that each say what g gives, before others that say `is`
 module _ {A : Type 0} (f : A → Record) (g : A → Item) where
-  each-said : (xs : List A) → ((x : A) → List·Memᴰ x xs → itemOf (f x) ≡ g x) → (rs : List Record)
-      → items (map f xs ++ rs) ≡ map g xs ++ items rs
+  each-said : (xs : List A) → ((x : A) → List·Memᴰ x xs → itemOf (f x) ≡ g x) → (rs : List Record) (is : List Item) → items rs ≡ is
+      → items (map f xs ++ rs) ≡ map g xs ++ is
   unfolding items
-  each-said [] h rs = refl
-  each-said (x ∷ xs) h rs =
-      ap₂ {C = List Item} _∷_ (h x (List·Memᴰ·head refl)) (each-said xs (λ y i. h y (List·Memᴰ·tail i)) rs)
+  each-said [] h rs is others = others
+  each-said (x ∷ xs) h rs is others =
+      ap₂ {C = List Item} _∷_ (h x (List·Memᴰ·head refl)) (each-said xs (λ y i. h y (List·Memᴰ·tail i)) rs is others)
 
 -- each record says what it was written of
 pub items-said : (t : Stated) → Storable t → items (recordsOf t) ≡ itemsOf t
 unfolding items recordsOf itemsOf
 items-said t ok =
     let size = size-read (t .size) (ok .places) (ok .arcs) in
-    let lanes = each-said laneRecord lane (t .lanes) (λ l i. lane-read l (ok .lanes l i)) in
-    let estimates = each-said estimateRecord estimate (t .estimates) (λ e i. estimate-read e (ok .estimates e i)) in
     let last : items (jobRecord (t .job) ∷ []) ≡ job (t .job) ∷ [] = rw (job-read (t .job) (ok .job)) in
-    let later : items (map estimateRecord (t .estimates) ++ (jobRecord (t .job) ∷ [])) ≡ map estimate (t .estimates) ++ (job (t .job) ∷ [])
-    = estimates (jobRecord (t .job) ∷ []) ∙ ap (λ (is : List Item). map estimate (t .estimates) ++ is) last in
-    let all = lanes (map estimateRecord (t .estimates) ++ (jobRecord (t .job) ∷ [])) ∙ ap (λ (is : List Item). map lane (t .lanes) ++ is) later in
-    ap₂ {C = List Item} _∷_ size all
+    let waits = each-said waitRecord wait (t .waits) (λ w i. wait-read w (ok .waits w i)) _ _ last in
+    let estimates = each-said estimateRecord estimate (t .estimates) (λ e i. estimate-read e (ok .estimates e i)) _ _ waits in
+    let lanes = each-said laneRecord lane (t .lanes) (λ l i. lane-read l (ok .lanes l i)) _ _ estimates in
+    ap₂ {C = List Item} _∷_ size lanes
 
 -- items of which a choice takes none, or takes what each is of
 module _ {A B : Type 0} (g : A → Item) (f : Item → Option B) (none-of : (x : A) → f (g x) ≡ none) where
@@ -110,23 +112,32 @@ module _ {A : Type 0} (g : A → Item) (f : Item → Option A) (some-of : (x : A
   all-taken (x ∷ xs) is = rw (some-of x) (ap (λ (ys : List A). x ∷ ys) (all-taken xs is))
 
 items-stated : (t : Stated) → Storable t → statedBy (itemsOf t) ≡ t
-unfolding itemsOf statedBy filterMap consIf sizeIn laneIn estimateIn jobIn headD
+unfolding itemsOf statedBy filterMap consIf sizeIn laneIn estimateIn jobIn waitIn headD
 items-stated t ok =
     let last : List Item = job (t .job) ∷ [] in
-    let es : List Item = map estimate (t .estimates) ++ last in
+    let ws : List Item = map wait (t .waits) ++ last in
+    let es : List Item = map estimate (t .estimates) ++ ws in
     let lanes : filterMap laneIn (map lane (t .lanes) ++ es) ≡ t .lanes
     = all-taken lane laneIn (λ l. refl) (t .lanes) es
-    ∙ rw (none-taken estimate laneIn (λ e. refl) (t .estimates) last) (append-nil (t .lanes)) in
+    ∙ rw (none-taken estimate laneIn (λ e. refl) (t .estimates) ws, none-taken wait laneIn (λ w. refl) (t .waits) last) (append-nil (t .lanes)) in
     let estimates : filterMap estimateIn (map lane (t .lanes) ++ es) ≡ t .estimates
     = none-taken lane estimateIn (λ l. refl) (t .lanes) es
-    ∙ all-taken estimate estimateIn (λ e. refl) (t .estimates) last
-    ∙ append-nil (t .estimates) in
+    ∙ all-taken estimate estimateIn (λ e. refl) (t .estimates) ws
+    ∙ rw (none-taken wait estimateIn (λ w. refl) (t .waits) last) (append-nil (t .estimates)) in
+    let waits : filterMap waitIn (map lane (t .lanes) ++ es) ≡ t .waits
+    = none-taken lane waitIn (λ l. refl) (t .lanes) es
+    ∙ none-taken estimate waitIn (λ e. refl) (t .estimates) ws
+    ∙ all-taken wait waitIn (λ w. refl) (t .waits) last
+    ∙ append-nil (t .waits) in
     let jobs : filterMap jobIn (map lane (t .lanes) ++ es) ≡ t .job ∷ []
-    = none-taken lane jobIn (λ l. refl) (t .lanes) es ∙ none-taken estimate jobIn (λ e. refl) (t .estimates) last in
+    = none-taken lane jobIn (λ l. refl) (t .lanes) es
+    ∙ none-taken estimate jobIn (λ e. refl) (t .estimates) ws
+    ∙ none-taken wait jobIn (λ w. refl) (t .waits) last in
     λ i. record {
       size = t .size;
       lanes = lanes i;
       estimates = estimates i;
+      waits = waits i;
       factors = sym (ok .factors) i;
       growth = sym (ok .growth) i;
       job = headD (jobs i) noJob;
@@ -163,9 +174,13 @@ head-long : (s : Size) → s .places < 65536 → s .arcs < 65536 → misfits (he
 unfolding misfits bodyLength otherThan headRecord put16
 head-long s p a = rw (size-read s p a)
 
-estimate-long : (e : Estimate) → StorableEstimate e → misfits (estimateRecord e) ≡ false
+estimate-long : (e : PlaceValue) → StorableValue (2 ^ 32) e → misfits (estimateRecord e) ≡ false
 unfolding misfits bodyLength otherThan estimateRecord put16 put32
 estimate-long e ok = rw (estimate-read e ok)
+
+wait-long : (w : PlaceValue) → StorableValue 65536 w → misfits (waitRecord w) ≡ false
+unfolding misfits bodyLength otherThan waitRecord put16
+wait-long w ok = rw (wait-read w ok)
 
 job-long : (j : Job) → StorableJob j → misfits (jobRecord j) ≡ false
 unfolding misfits bodyLength otherThan
@@ -175,6 +190,7 @@ pub lengths-right : (t : Stated) → Storable t → wrongLength (recordsOf t) �
 unfolding wrongLength recordsOf any
 lengths-right t ok =
     let job = or-none (misfits (jobRecord (t .job))) _ (job-long (t .job) (ok .job)) refl in
-    let estimates = each-long estimateRecord (t .estimates) (λ e i. estimate-long e (ok .estimates e i)) _ job in
+    let waits = each-long waitRecord (t .waits) (λ w i. wait-long w (ok .waits w i)) _ job in
+    let estimates = each-long estimateRecord (t .estimates) (λ e i. estimate-long e (ok .estimates e i)) _ waits in
     let lanes = each-long laneRecord (t .lanes) (λ l i. lane-long l (ok .lanes l i)) _ estimates in
     or-none (misfits (headRecord (t .size))) _ (head-long (t .size) (ok .places) (ok .arcs)) lanes

@@ -1,16 +1,20 @@
--- Runs of the writer, computed from the definitions: an input whose lanes are out of order in every field, and inputs at the edge of 14 and 15.
+-- Runs of the writer, computed from the definitions: an input whose lanes are out of order in every field, inputs whose waits stand among the other
+-- records, inputs at the edge of 14, 15 and 21, and a pair that differs in a wait.
 use mathlib.Core.Path.{_≡_, refl}
 use mathlib.Core.Bool.{Bool, true, false, _&&_}
 use mathlib.Core.List.{List, [], _∷_, _++_, flatMap}
 use Prim.Native.Nat.{ℕ, _-_}
+use native.Mathlib.Omega.{arith}
 use lib.Dec.{eqb}
 use lib.ListN.{length, replicate}
 use Rattle.model.specs.Lists.{below}
-use Rattle.model.specs.Jobs.{putHead, putArc, putMeasured, putEstimate, putJob, putCharged, putLane}
+use Rattle.model.specs.Stated.{statedIn}
+use Rattle.model.specs.Jobs.{putHead, putArc, putMeasured, putEstimate, putWait, putJob, putCharged, putLane}
 use Rattle.model.proofs.Compute.{compute}
 use Rattle.sort.specs.Sorting.{insert, sortBy}
 use Rattle.map_writer.specs.Order.{kindFields, orderFields, noGreater, noLater}
-use Rattle.map_writer.specs.Canonical.{estimatesByPlace, canonical, putStated, write}
+use Rattle.map_writer.specs.Canonical.{byPlace, nonzeroByPlace, canonical, putStated, write}
+use Rattle.map_writer.specs.Agree.{Agree}
 use Rattle.map_writer.specs.Call.{shortOutput, outputRows, writeRows, writeRefusal, writtenWith, writeIf, writeMap}
 
 -- lanes that differ from the one before in one field only: class, length, kind, cost, to, from; and a repeat
@@ -32,6 +36,27 @@ jumbled = putHead 4 8 ++ putEstimate 3 7 ++ lanes ++ putEstimate 1 0 ++ putEstim
 canonicalForm : List ℕ
 canonicalForm = putHead 4 8 ++ inOrder ++ putEstimate 2 300 ++ putEstimate 3 7 ++ job
 
+-- waits stand between the lanes and around them, out of order, one of them 0; with its wait the second lane costs 65,535
+waiting : List ℕ
+waiting =
+    putHead 3 2 ++ putWait 2 9 ++ putArc 1 2 4 ++ putWait 1 0 ++ putArc 0 1 5 ++ putWait 0 65530 ++ putJob 0 90 (2 ∷ [])
+
+waitingForm : List ℕ
+waitingForm = putHead 3 2 ++ putArc 0 1 5 ++ putArc 1 2 4 ++ putWait 0 65530 ++ putWait 2 9 ++ putJob 0 90 (2 ∷ [])
+
+-- waits and estimates in turn
+mixed : List ℕ
+mixed =
+    putHead 3 2 ++ putWait 1 3 ++ putEstimate 1 4 ++ putArc 0 1 5 ++ putWait 0 2 ++ putArc 1 2 4 ++ putEstimate 0 9 ++ putJob 0 90 (2 ∷ [])
+
+mixedForm : List ℕ
+mixedForm =
+    putHead 3 2 ++ putArc 0 1 5 ++ putArc 1 2 4 ++ putEstimate 0 9 ++ putEstimate 1 4 ++ putWait 0 2 ++ putWait 1 3 ++ putJob 0 90 (2 ∷ [])
+
+-- one lane from a place with this wait
+oneWait : ℕ → List ℕ
+oneWait x = putHead 2 1 ++ putArc 0 1 5 ++ putWait 0 x ++ putJob 0 90 (1 ∷ [])
+
 record Run : Type 0 where
   pub input : List ℕ
   -- how long the lent areas are
@@ -49,6 +74,12 @@ runs : List Run
 runs =
     run jumbled 84 140 0 80 canonicalForm
     ∷ run canonicalForm 80 130 0 80 canonicalForm
+    -- waits by place, after the estimates and just before the job
+    ∷ run waiting 52 66 0 52 waitingForm
+    ∷ run mixed 52 78 0 52 mixedForm
+    -- in two maps that differ in a wait
+    ∷ run (oneWait 3) 34 40 0 34 (oneWait 3)
+    ∷ run (oneWait 4) 34 40 0 34 (oneWait 4)
     -- one word, and one byte, less than is asked: what would be written would fit
     ∷ run jumbled 79 140 14 0 []
     ∷ run jumbled 80 139 15 0 []
@@ -56,6 +87,7 @@ runs =
     -- a condition of the input comes first
     ∷ run [] 0 0 4 0 []
     ∷ run (putHead 1 1 ++ putMeasured 0 0 1 8 ++ putJob 0 0 (0 ∷ [])) 0 0 20 0 []
+    ∷ run (oneWait 65531) 0 0 21 0 []
     ∷ []
 
 same : List ℕ → List ℕ → Bool
@@ -80,7 +112,12 @@ all [] = true
 all (r ∷ rs) = agrees r && all rs
 
 runs-agree : all runs ≡ true
-unfolding compute lanes inOrder job jumbled canonicalForm run runs same agrees all below flatMap putHead putArc putMeasured putEstimate putJob
-    insert sortBy kindFields orderFields noGreater noLater estimatesByPlace canonical putCharged putLane putStated write
+unfolding compute lanes inOrder job jumbled canonicalForm waiting waitingForm mixed mixedForm oneWait run runs same agrees all
+    below flatMap insert sortBy kindFields orderFields noGreater noLater byPlace nonzeroByPlace canonical putCharged putLane putStated write
     shortOutput outputRows writeRows writeRefusal writtenWith writeIf writeMap
 runs-agree = refl
+
+-- and they do not agree
+waits-differ : Agree (statedIn (oneWait 3)) (statedIn (oneWait 4)) → ⊥
+unfolding compute oneWait
+waits-differ a = omega (arith, a .waits 0)

@@ -7,7 +7,7 @@ use Rattle.model.specs.Bytes.{Bytes}
 use Rattle.model.specs.Framing.{frame}
 use Rattle.model.specs.Problem.{Valid}
 use Rattle.model.specs.Items.{Size}
-use Rattle.model.specs.Stated.{Stated, statedIn, arcUnder, problemOf}
+use Rattle.model.specs.Stated.{Stated, statedIn, arcOf, problemOf}
 use Rattle.model.specs.Refusals.{workWords, roomRows, firstThatHolds, firstOf, refusal, inputRefusal, Accepted}
 use Rattle.model.specs.Endings.{Ending, budgeted}
 use Rattle.model.specs.Answer.{endedWith, callIf, call, route}
@@ -20,23 +20,26 @@ use Rattle.model.proofs.Promises.{same-calls}
 use Rattle.sort.proofs.SortLaws.{sort-member}
 use Rattle.map_writer.specs.Order.{noLater}
 use Rattle.map_writer.specs.Canonical.{canonical, write}
-use Rattle.map_writer.proofs.EstimateLaws.{EstimatesInside, canonical-lookup}
-use Rattle.map_writer.proofs.CanonicalPasses.{estimates-inside}
-use Rattle.map_writer.proofs.WrittenAccepted.{input-passing, written-states, written-bytes, written-passes}
+use Rattle.map_writer.proofs.PlaceValues.{ValuesInside, canonical-estimate, canonical-arc}
+use Rattle.map_writer.proofs.CanonicalPasses.{values-inside}
+use Rattle.map_writer.proofs.WrittenAccepted.{input-passing, written-states, written-passes}
 
 -- the canonical form states the same problem
-pub canonical-problem : (s : Stated) → EstimatesInside s → SameProblem (problemOf s) (problemOf (canonical s))
+pub canonical-problem : (s : Stated) → ValuesInside s → SameProblem (problemOf s) (problemOf (canonical s))
 unfolding problemOf canonical
 canonical-problem s inside =
-    let arc = arcUnder (s .factors) in
     let sorted = sort-member (noLater (s .factors)) (s .lanes) in
     record {
       places = refl;
-      estimate = λ v below. sym (canonical-lookup s inside v);
+      estimate = λ v below. sym (canonical-estimate s inside v);
       start = refl;
       growth = refl;
-      arc-to = λ a i. let (l, j, is) = Memᴰ·of-map arc (s .lanes) i in rw (← is) (Memᴰ·map arc (sorted l .1 j));
-      arc-from = λ a i. let (l, j, is) = Memᴰ·of-map arc _ i in rw (← is) (Memᴰ·map arc (sorted l .0 j));
+      arc-to = λ a i.
+          let (l, j, is) = Memᴰ·of-map (arcOf s) (s .lanes) i in
+          rw (← is, ← canonical-arc s inside l) (Memᴰ·map (arcOf (canonical s)) (sorted l .1 j));
+      arc-from = λ a i.
+          let (l, j, is) = Memᴰ·of-map (arcOf (canonical s)) (canonical s .lanes) i in
+          rw (← is, canonical-arc s inside l) (Memᴰ·map (arcOf s) (sorted l .0 j));
       goal-to = λ g i. i;
       goal-from = λ g i. i;
     }
@@ -70,10 +73,10 @@ module _ (input : List ℕ) (B : Bytes input) (passes : inputRefusal (frame inpu
   -- and end alike under every allowance
   same-end : (words bytes : ℕ) → Accepted input words bytes → (a : ℕ) → budgeted (problemOf s) a ≡ budgeted (problemOf (canonical s)) a
   same-end words bytes A =
-      let valid = accepted-valid input words bytes B A in
-      let also = accepted-valid b words bytes (written-bytes input B passes) (written-refusal words bytes ∙ A) in
+      let valid = accepted-valid input words bytes A in
+      let also = accepted-valid b words bytes (written-refusal words bytes ∙ A) in
       let fine : Valid (problemOf (canonical s)) = rw (written-states input B passes) at also in
-      let same = canonical-problem s (estimates-inside s (input-passing (frame input) passes)) in
+      let same = canonical-problem s (values-inside s (input-passing (frame input) passes)) in
       same-ending (problemOf s) (problemOf (canonical s)) valid fine same
 
   -- with the same areas the call comes to the same

@@ -3,34 +3,33 @@ use mathlib.Core.Path.{_≡_, refl}
 use mathlib.Core.Bool.{Bool, true, false}
 use mathlib.Core.List.{List, [], _∷_, _++_, map, headD, append-assoc, List·Memᴰ, List·Memᴰ·head, Memᴰ·of-map}
 use mathlib.Core.Option.{some}
-use Prim.Native.Nat.{ℕ, _+_, _^_, _<_}
+use Prim.Native.Nat.{ℕ, _^_, _<_}
 use native.Mathlib.Omega.{arith}
 use lib.ListN.{length}
 use Rattle.model.specs.Lists.{any, consIf, filterMap, isGiven}
 use Rattle.model.specs.Bytes.{Bytes, u32}
 use Rattle.model.specs.Framing.{Record, Framed, frame}
-use Rattle.model.specs.Items.{Lane, Job, Item, head, lane, estimate, job, other, jobOf, itemOf, items, bodyLength, sizeIn, jobIn}
+use Rattle.model.specs.Items.{Lane, Job, Item, head, lane, estimate, job, wait, other, jobOf, itemOf, items, bodyLength, sizeIn, jobIn}
 use Rattle.model.specs.Stated.{Stated, noJob, statedBy, stated, statedIn}
 use Rattle.model.specs.Refusals.{unknownKind, beginsWithHead, wrongHead, wrongMeasure, endsWithJob, wrongJob}
-use Rattle.model.specs.Refusals.{formRows, sizeRows, mapRows, jobRows, inputRows, firstThatHolds, holdsAt, inputRefusal}
+use Rattle.model.specs.Refusals.{formRows, sizeRows, mapRows, costRows, jobRows, inputRows, firstThatHolds, holdsAt, inputRefusal}
 use Rattle.model.proofs.Lists.{none-some, any-false, filterMap-member}
-use Rattle.model.proofs.Charges.{IsTable, fixed-table, lane-cost-below}
 use Rattle.model.proofs.Bytes.{u32-below}
 use Rattle.model.proofs.Items.{KindOf, is-job, kind-of}
 use Rattle.model.proofs.Rows.{row-fails, input-numbered}
 use Rattle.model.proofs.Records.{records-fit}
-use Rattle.model.proofs.Acceptance.{flat-below, states-factors, states-growth}
+use Rattle.model.proofs.Acceptance.{wait-below, states-factors, states-growth}
 use Rattle.load.specs.Load.{Fit}
 use Rattle.map_writer.specs.Canonical.{canonical, putStated, write}
-use Rattle.map_writer.proofs.WrittenRecords.{Storable, put-bytes, put-framed}
+use Rattle.map_writer.proofs.WrittenRecords.{Storable, put-framed}
 use Rattle.map_writer.proofs.ReadBack.{itemsOf, items-said, none-taken, records-stated, stated-back, lengths-right}
-use Rattle.map_writer.proofs.CanonicalPasses.{Passing, lane-inside, canonical-passing, canonical-storable}
+use Rattle.map_writer.proofs.CanonicalPasses.{Passing, lane-inside, lane-cheap, canonical-passing, canonical-storable}
 
 -- ---- what an input states
 
 -- the conditions on what an input states, each found by its number
 pub input-passing : (f : Framed) → inputRefusal f ≡ 0 → Passing (stated (f .records))
-unfolding inputRefusal inputRows formRows sizeRows mapRows jobRows holdsAt
+unfolding inputRefusal inputRows formRows sizeRows mapRows costRows jobRows holdsAt
 input-passing f A =
     let no = row-fails (inputRows f) (input-numbered f) A in
     record {
@@ -40,26 +39,25 @@ input-passing f A =
       small = no 8;
       single = no 9;
       in-measure = no 20;
+      waits = no 21;
       job-inside = no 11;
       goals = no 12;
       zero-goals = no 13;
     }
 
 -- each lane within the map, at a cost of 2 bytes
-pub stated-fit : (input : List ℕ) → Bytes input → inputRefusal (frame input) ≡ 0 → (l : Lane) → List·Memᴰ l (statedIn input .lanes)
+pub stated-fit : (input : List ℕ) → inputRefusal (frame input) ≡ 0 → (l : Lane) → List·Memᴰ l (statedIn input .lanes)
     → Fit (statedIn input .size .places) (statedIn input .factors) l
 unfolding wrongMeasure
-stated-fit input B A l i =
+stated-fit input A l i =
     let s = statedIn input in
     let p = input-passing (frame input) A in
-    let measure = any-false _ _ (p .in-measure) l i in
-    let table : IsTable (s .factors) = rw (states-factors (frame input .records)) fixed-table in
     let inside = lane-inside s p l i in
     record {
       from = inside .0;
       to = inside .1;
-      measure = measure;
-      cost = lane-cost-below (s .factors) table (l .charge) (flat-below input B l i) measure;
+      measure = any-false _ _ (p .in-measure) l i;
+      cost = lane-cheap s p l i;
     }
 
 -- a job's allowance is a field of the body
@@ -72,6 +70,7 @@ allowance-field r j e = go (itemOf r) (kind-of r) e
     go (lane l) k e = none-some e
     go (estimate s) k e = none-some e
     go (job k) (is-job q) e = cc
+    go (wait w) k e = none-some e
     go other k e = none-some e
 
 -- the allowance is a number of 4 bytes
@@ -105,25 +104,38 @@ ends-after i (k ∷ is) j = ends-after k is j
 module _ (t : Stated) where
   known-kinds : unknownKind (itemsOf t) ≡ false
   unfolding unknownKind itemsOf bodyLength isGiven any
-  known-kinds = none-passes lane _ (λ l. refl) (t .lanes) _ (none-passes estimate _ (λ e. refl) (t .estimates) _ refl)
+  known-kinds =
+      let waits = none-passes wait _ (λ w. refl) (t .waits) _ refl in
+      none-passes lane _ (λ l. refl) (t .lanes) _ (none-passes estimate _ (λ e. refl) (t .estimates) _ waits)
 
   right-head : wrongHead (itemsOf t) ≡ false
   unfolding wrongHead itemsOf beginsWithHead sizeIn isGiven filterMap consIf
-  right-head = rw (none-taken lane sizeIn (λ l. refl) (t .lanes), none-taken estimate sizeIn (λ e. refl) (t .estimates))
+  right-head =
+      rw (
+        none-taken lane sizeIn (λ l. refl) (t .lanes),
+        none-taken estimate sizeIn (λ e. refl) (t .estimates),
+        none-taken wait sizeIn (λ w. refl) (t .waits),
+      )
 
   one-job : wrongJob (itemsOf t) ≡ false
   unfolding wrongJob itemsOf jobIn isGiven filterMap consIf
   one-job =
       let ls : List Item = map lane (t .lanes) in
       let es : List Item = map estimate (t .estimates) in
+      let ws : List Item = map wait (t .waits) in
       let last : List Item = job (t .job) ∷ [] in
-      let end : endsWithJob (head (t .size) ∷ (ls ++ (es ++ last))) ≡ true
-      = rw (← append-assoc ls es last) (ends-after (head (t .size)) (ls ++ es) (job (t .job))) in
-      rw (end, none-taken lane jobIn (λ l. refl) (t .lanes), none-taken estimate jobIn (λ e. refl) (t .estimates))
+      let end : endsWithJob (head (t .size) ∷ (ls ++ (es ++ (ws ++ last)))) ≡ true
+      = rw (← append-assoc es ws last, ← append-assoc ls (es ++ ws) last) (ends-after (head (t .size)) (ls ++ (es ++ ws)) (job (t .job))) in
+      rw (
+        end,
+        none-taken lane jobIn (λ l. refl) (t .lanes),
+        none-taken estimate jobIn (λ e. refl) (t .estimates),
+        none-taken wait jobIn (λ w. refl) (t .waits),
+      )
 
   -- the records of what passes are accepted
   pub put-passes : Storable t → Passing t → inputRefusal (frame (putStated t)) ≡ 0
-  unfolding inputRefusal inputRows formRows sizeRows mapRows jobRows firstThatHolds
+  unfolding inputRefusal inputRows formRows sizeRows mapRows costRows jobRows firstThatHolds
   put-passes ok p =
       rw (
         put-framed t ok,
@@ -138,6 +150,7 @@ module _ (t : Stated) where
         p .small,
         p .single,
         p .in-measure,
+        p .waits,
         one-job,
         p .job-inside,
         p .goals,
@@ -147,19 +160,15 @@ module _ (t : Stated) where
 -- ---- the written map of an input
 
 module _ (input : List ℕ) (B : Bytes input) (A : inputRefusal (frame input) ≡ 0) where
-  -- the canonical form fits in the bytes of its records: what is no place, length, class or estimate was a field of the input
+  -- the canonical form fits in the bytes of its records: waits where no arc leaves, and the allowance, which no condition bounds, were fields before
   pub storable : Storable (canonical (statedIn input))
   storable =
-      canonical-storable (statedIn input) (input-passing (frame input) A) (flat-below input B) (allowance-below input B)
+      canonical-storable (statedIn input) (input-passing (frame input) A) (wait-below input B) (allowance-below input B)
       (states-factors (frame input .records)) (states-growth (frame input .records))
 
   pub written-states : statedIn (write (statedIn input)) ≡ canonical (statedIn input)
   unfolding write
   written-states = stated-back (canonical (statedIn input)) storable
-
-  pub written-bytes : Bytes (write (statedIn input))
-  unfolding write
-  written-bytes = put-bytes (canonical (statedIn input)) storable
 
   pub written-passes : inputRefusal (frame (write (statedIn input))) ≡ 0
   unfolding write

@@ -1,5 +1,5 @@
 -- The records that are written of what is stated. Where its fields fit in theirs, they are bytes and are framed as those records. Assumes nothing.
-use mathlib.Core.Path.{_≡_, refl, sym, _∙_}
+use mathlib.Core.Path.{_≡_, refl, sym}
 use mathlib.Core.Bool.{false}
 use mathlib.Core.List.{List, [], _∷_, _++_, map, flatMap, append-nil, append-assoc}
 use mathlib.Core.List.{List·Memᴰ, List·Memᴰ·head, List·Memᴰ·tail, List·Memᴰ·not-nil}
@@ -8,12 +8,12 @@ use native.Mathlib.Omega.{arith}
 use lib.ListN.{length}
 use Rattle.model.specs.Bytes.{Bytes, put16, put32, put16s}
 use Rattle.model.specs.Framing.{Record, frame, putRecord}
-use Rattle.model.specs.Items.{headKind, arcKind, estimateKind, jobKind, measuredKind, jobBytes}
-use Rattle.model.specs.Items.{Size, Charge, flat, measured, Lane, Estimate, Job}
+use Rattle.model.specs.Items.{headKind, arcKind, estimateKind, jobKind, measuredKind, waitKind, jobBytes}
+use Rattle.model.specs.Items.{Size, Charge, flat, measured, Lane, PlaceValue, Job}
 use Rattle.model.specs.Stated.{Stated, fixedFactors}
-use Rattle.model.specs.Jobs.{putHead, putArc, putMeasured, putEstimate, putJob, putCharged, putLane}
+use Rattle.model.specs.Jobs.{putHead, putArc, putMeasured, putEstimate, putWait, putJob, putCharged, putLane}
 use Rattle.model.proofs.Bytes.{append-bytes, put16-is-bytes, put32-is-bytes, put16s-is-bytes, put16s-length}
-use Rattle.model.proofs.Records.{putRecords, Fits, AllFit, putRecords-is-bytes, frame-records}
+use Rattle.model.proofs.Records.{putRecords, Fits, AllFit, frame-records}
 use Rattle.map_writer.specs.Canonical.{putStated}
 
 -- ---- what fits in the bytes of its fields
@@ -27,9 +27,10 @@ pub record StorableLane (l : Lane) : Type 0 where
   pub to : l .to < 65536
   pub charge : StorableCharge (l .charge)
 
-pub record StorableEstimate (e : Estimate) : Type 0 where
-  pub place : e .place < 65536
-  pub value : e .value < 2 ^ 32
+-- an estimate or a wait, below what its field holds
+pub record StorableValue (end : ℕ) (x : PlaceValue) : Type 0 where
+  pub place : x .place < 65536
+  pub value : x .value < end
 
 pub record StorableJob (j : Job) : Type 0 where
   pub start : j .start < 65536
@@ -41,7 +42,8 @@ pub record Storable (t : Stated) : Type 0 where
   pub places : t .size .places < 65536
   pub arcs : t .size .arcs < 65536
   pub lanes : (l : Lane) → List·Memᴰ l (t .lanes) → StorableLane l
-  pub estimates : (e : Estimate) → List·Memᴰ e (t .estimates) → StorableEstimate e
+  pub estimates : (e : PlaceValue) → List·Memᴰ e (t .estimates) → StorableValue (2 ^ 32) e
+  pub waits : (w : PlaceValue) → List·Memᴰ w (t .waits) → StorableValue 65536 w
   pub job : StorableJob (t .job)
   -- no record states others
   pub factors : t .factors ≡ fixedFactors
@@ -59,15 +61,19 @@ chargedRecord u v (measured length class) = record { kind = measuredKind; body =
 unfoldable pub laneRecord : Lane → Record
 laneRecord l = chargedRecord (l .from) (l .to) (l .charge)
 
-unfoldable pub estimateRecord : Estimate → Record
+unfoldable pub estimateRecord : PlaceValue → Record
 estimateRecord e = record { kind = estimateKind; body = put16 (e .place) ++ put32 (e .value) }
+
+unfoldable pub waitRecord : PlaceValue → Record
+waitRecord w = record { kind = waitKind; body = put16 (w .place) ++ put16 (w .value) }
 
 unfoldable pub jobRecord : Job → Record
 jobRecord j = record { kind = jobKind; body = put16 (j .start) ++ put32 (j .allowance) ++ put16 (length (j .goals)) ++ put16s (j .goals) }
 
 unfoldable pub recordsOf : Stated → List Record
 recordsOf t =
-    headRecord (t .size) ∷ (map laneRecord (t .lanes) ++ (map estimateRecord (t .estimates) ++ (jobRecord (t .job) ∷ [])))
+    headRecord (t .size)
+    ∷ (map laneRecord (t .lanes) ++ (map estimateRecord (t .estimates) ++ (map waitRecord (t .waits) ++ (jobRecord (t .job) ∷ []))))
 
 -- records put one after another, of which each is the bytes that g gives
 module _ {A : Type 0} (f : A → Record) (g : A → List ℕ) (each : (x : A) → g x ≡ putRecord (f x .kind) (f x .body)) where
@@ -85,21 +91,29 @@ put-lane l = go (l .charge)
     go (flat cost) = refl
     go (measured length class) = refl
 
-put-estimate : (e : Estimate) → putEstimate (e .place) (e .value) ≡ putRecord (estimateRecord e .kind) (estimateRecord e .body)
+-- the bytes of an estimate, and of a wait
+abbrev pub putEstimateOf : PlaceValue → List ℕ
+putEstimateOf e = putEstimate (e .place) (e .value)
+
+abbrev pub putWaitOf : PlaceValue → List ℕ
+putWaitOf w = putWait (w .place) (w .value)
+
+put-estimate : (e : PlaceValue) → putEstimateOf e ≡ putRecord (estimateRecord e .kind) (estimateRecord e .body)
 unfolding putEstimate estimateRecord
 put-estimate e = refl
+
+put-wait : (w : PlaceValue) → putWaitOf w ≡ putRecord (waitRecord w .kind) (waitRecord w .body)
+unfolding putWait waitRecord
+put-wait w = refl
 
 -- one after another they are what is written
 pub put-records : (t : Stated) → putRecords (recordsOf t) ≡ putStated t
 unfolding recordsOf putStated putRecords putHead putJob headRecord jobRecord
 put-records t =
-    let h : List ℕ = putHead (t .size .places) (t .size .arcs) in
-    let ls : List ℕ = flatMap putLane (t .lanes) in
-    let es : List ℕ = flatMap (λ (e : Estimate). putEstimate (e .place) (e .value)) (t .estimates) in
-    let j : List ℕ = putJob (t .job .start) (t .job .allowance) (t .job .goals) in
     let lanes = put-each laneRecord putLane put-lane (t .lanes) in
-    let estimates = put-each estimateRecord (λ (e : Estimate). putEstimate (e .place) (e .value)) put-estimate (t .estimates) in
-    rw (lanes, estimates, append-nil j) (sym (append-assoc (h ++ ls) es j ∙ append-assoc h ls (es ++ j)))
+    let estimates = put-each estimateRecord putEstimateOf put-estimate (t .estimates) in
+    let waits = put-each waitRecord putWaitOf put-wait (t .waits) in
+    rw (lanes, estimates, waits, append-nil (putJob (t .job .start) (t .job .allowance) (t .job .goals))) (simp append-assoc)
 
 -- ---- they fit
 
@@ -125,12 +139,16 @@ lane-fits l = go (l .charge)
     go (measured length class) =
         record { kind-below = omega arith; length-below = omega arith; bytes = four-fields (l .from) (l .to) length class }
 
-estimate-fits : (e : Estimate) → Fits (estimateRecord e)
+estimate-fits : (e : PlaceValue) → Fits (estimateRecord e)
 unfolding estimateRecord put16 put32
 estimate-fits e =
     let bytes : Bytes (put16 (e .place) ++ put32 (e .value))
     = append-bytes (put16 (e .place)) (put32 (e .value)) (put16-is-bytes (e .place)) (put32-is-bytes (e .value)) in
     record { kind-below = omega arith; length-below = omega arith; bytes = bytes }
+
+wait-fits : (w : PlaceValue) → Fits (waitRecord w)
+unfolding waitRecord put16
+wait-fits w = record { kind-below = omega arith; length-below = omega arith; bytes = two-fields (w .place) (w .value) }
 
 -- the body of a job before its goals
 abbrev pub jobFront : Job → List ℕ
@@ -165,14 +183,12 @@ records-fit : (t : Stated) → Storable t → AllFit (recordsOf t)
 unfolding recordsOf
 records-fit t ok r (List·Memᴰ·head e) = rw e (head-fits (t .size))
 records-fit t ok r (List·Memᴰ·tail i) =
-    fit-each laneRecord lane-fits (t .lanes) _ (fit-each estimateRecord estimate-fits (t .estimates) _ last) r i
+    let waits = fit-each waitRecord wait-fits (t .waits) _ last in
+    fit-each laneRecord lane-fits (t .lanes) _ (fit-each estimateRecord estimate-fits (t .estimates) _ waits) r i
   where
     last : AllFit (jobRecord (t .job) ∷ [])
     last r (List·Memᴰ·head e) = rw e (job-fits (t .job) (ok .job))
     last r (List·Memᴰ·tail i) = absurd (List·Memᴰ·not-nil i)
-
-pub put-bytes : (t : Stated) → Storable t → Bytes (putStated t)
-put-bytes t ok = rw (← put-records t) (putRecords-is-bytes (recordsOf t) (records-fit t ok))
 
 -- whole records, and these
 pub put-framed : (t : Stated) → Storable t → frame (putStated t) ≡ record { records = recordsOf t; broken = false }

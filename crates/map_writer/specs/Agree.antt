@@ -1,4 +1,5 @@
--- When two inputs state the same. Document 02, paper 3: "the same N, arc records as a collection with repeats, estimates and job".
+-- When two inputs state the same. Document 02, paper 3: "the same N, arc records as a collection with repeats, estimates and job"; paper 5 on waits: "its
+-- agreement covers them".
 use mathlib.Core.Path.{_≡_}
 use mathlib.Core.Bool.{Bool, false, _&&_}
 use mathlib.Core.List.{List}
@@ -7,7 +8,7 @@ use lib.Dec.{eqb}
 use lib.ListN.{length}
 use Rattle.model.specs.Lists.{filter}
 use Rattle.model.specs.Items.{Charge, flat, measured, Lane}
-use Rattle.model.specs.Stated.{Stated, lookup}
+use Rattle.model.specs.Stated.{Stated, lookup, waitAt}
 
 unfoldable pub sameCharge : Charge → Charge → Bool
 sameCharge (flat c) (flat d) = eqb c d
@@ -26,4 +27,5 @@ pub record Agree (s t : Stated) : Type 0 where
   pub places : s .size .places ≡ t .size .places
   pub lanes : (l : Lane) → copies l (s .lanes) ≡ copies l (t .lanes)
   pub estimates : (v : ℕ) → lookup 0 (s .estimates) v ≡ lookup 0 (t .estimates) v
+  pub waits : (v : ℕ) → waitAt s v ≡ waitAt t v
   pub job : s .job ≡ t .job

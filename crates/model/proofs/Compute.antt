@@ -9,6 +9,7 @@ use Rattle.model.specs.Items.{
   measuredOf,
   estimateOf,
   jobOf,
+  waitOf,
   itemOf,
   chargeBytes,
   bodyLength,
@@ -19,8 +20,9 @@ use Rattle.model.specs.Items.{
   laneIn,
   estimateIn,
   jobIn,
+  waitIn,
 }
-use Rattle.model.specs.Stated.{statedBy, stated, lookup, costUnder, arcUnder, problemOf}
+use Rattle.model.specs.Stated.{statedBy, stated, lookup, costUnder, laneCost, waitAt, arcOf, problemOf}
 use Rattle.model.specs.Refusals.{
   unknownKind,
   wrongLength,
@@ -34,6 +36,7 @@ use Rattle.model.specs.Refusals.{
   twoEstimates,
   mismeasured,
   wrongMeasure,
+  wrongWait,
   endsWithJob,
   wrongJob,
   jobOutsideMap,
@@ -44,6 +47,7 @@ use Rattle.model.specs.Refusals.{
   formRows,
   sizeRows,
   mapRows,
+  costRows,
   jobRows,
   inputRows,
   roomRows,
@@ -108,7 +112,7 @@ use Rattle.model.specs.Sheets.{
   readSheet,
   hostAnswer,
 }
-use Rattle.model.specs.Jobs.{putHead, putArc, putMeasured, putEstimate, putJob, shares, putChain, routeJob, noRouteJob}
+use Rattle.model.specs.Jobs.{putHead, putArc, putMeasured, putEstimate, putWait, putJob, shares, putChain, routeJob, noRouteJob}
 use Rattle.model.specs.Endings.{finished, endingIf, budgetedBy}
 use Rattle.model.specs.Answer.{sheetOf, answerOf, overFront, refusedWith, endedWith, callIf, call}
 
@@ -118,16 +122,16 @@ unfolding
     any filter isGiven consIf filterMap lesser leastBy member repeats rises
     u16 u32 u16s put16 put32 put16s
     stop push frameUpTo frame putRecord
-    headOf laneOf measuredOf estimateOf jobOf itemOf chargeBytes bodyLength otherThan misfits items sizeIn laneIn estimateIn jobIn
-    statedBy stated lookup costUnder arcUnder problemOf
+    headOf laneOf measuredOf estimateOf jobOf waitOf itemOf chargeBytes bodyLength otherThan misfits items sizeIn laneIn estimateIn jobIn waitIn
+    statedBy stated lookup costUnder laneCost waitAt arcOf problemOf
     unknownKind wrongLength beginsWithHead wrongHead wrongSize outsideMap isFree freeArc largeEstimate twoEstimates mismeasured wrongMeasure
-    endsWithJob wrongJob jobOutsideMap wrongGoals goalEstimate shortWork shortSheet
-    formRows sizeRows mapRows jobRows inputRows roomRows rows firstThatHolds refusal
+    wrongWait endsWithJob wrongJob jobOutsideMap wrongGoals goalEstimate shortWork shortSheet
+    formRows sizeRows mapRows costRows jobRows inputRows roomRows rows firstThatHolds refusal
     lowers storeIf arrive relaxFrom relax relaxAll sameEntry sameTable relaxUpTo startTable table
     precedes keyOf keysFrom within firstGoal lengthTo crossing nextLimit notOver judge queryOn query
     firstRound limitOf closeIf settle after ask next goOn traceUpTo trace total begun search
     parentBy parent extend routeUpTo routeTo tightBy leastPaths routeToFirst firstRoute
     routeSheet noRouteSheet reading refusedRead impossible checked fitsRoute fitsNoRoute readRecord readFramed readSheet hostAnswer
-    putHead putArc putMeasured putEstimate putJob shares putChain routeJob noRouteJob
+    putHead putArc putMeasured putEstimate putWait putJob shares putChain routeJob noRouteJob
     finished endingIf budgetedBy sheetOf answerOf overFront refusedWith endedWith callIf call
 compute = tt

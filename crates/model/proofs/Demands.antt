@@ -12,8 +12,10 @@ use lib.ListN.{length}
 use Rattle.model.specs.Numbers.{binaryDigits}
 use Rattle.model.specs.Bytes.{Bytes}
 use Rattle.model.specs.Framing.{frame}
-use Rattle.model.specs.Paths.{GoalReachable, Route, Cheapest, FirstCheapest, FirstWithin, Admissible}
-use Rattle.model.specs.Stated.{problemOf}
+use Rattle.model.specs.Problem.{IsGoal}
+use Rattle.model.specs.Paths.{WalkAlong, GoalReachable, Route, Cheapest, FirstCheapest, FirstWithin, Overstates, Admissible}
+use Rattle.model.specs.Stated.{statedIn, problemOf}
+use Rattle.model.specs.Ways.{Travels}
 use Rattle.model.specs.Refusals.{Row, rows}
 use Rattle.model.specs.Costs.{table}
 use Rattle.model.specs.Query.{within}
@@ -28,6 +30,7 @@ use Rattle.model.specs.Jobs.{routeJob, noRouteJob}
 use Rattle.model.specs.Terms.{endsBetween}
 use Rattle.model.proofs.Laws.{admissible-total, never-spent-at-2, has-cheapest}
 use Rattle.model.proofs.Acceptance.{states-growth}
+use Rattle.model.proofs.Ways.{walks-are-ways, routes-are-ways, overstates-by-ways}
 use Rattle.model.proofs.Sheets.{refused-otherwise}
 use Rattle.model.proofs.Rows.{NoneHolds}
 use Rattle.model.proofs.Promises.{row-refuses, no-row-accepts, comes, valid, ends, ends-number, never-spent}
@@ -269,6 +272,22 @@ longer-allowance = record {
   floor-below = λ c r g. rw g (floor-below c);
 }
 
+-- Document 02, paper 5, of what any call's input states: "Cost means lanes plus waits in every comparison from here on". Paths, costs, cheapest
+-- routes and overstating, of which the demands above speak, are those of the lanes and waits that the records state.
+pub record LanesPlusWaits (c : Call) : Type 0 where
+  pub walks : (u v d : ℕ) (r : List ℕ) → WalkAlong (problem c) u v d r ↔ Travels (statedIn (c .input)) u v d r
+  pub routes : (d : ℕ) (r : List ℕ)
+      → Route (problem c) d r ↔ ((g : ℕ) × IsGoal (problem c) g × Travels (statedIn (c .input)) (problem c .start) g d r)
+  -- "an estimate overstates when it is above that sum"
+  pub overstates : (v : ℕ)
+      → Overstates (problem c) v
+      ↔ ((g d : ℕ) × (r : List ℕ) × IsGoal (problem c) g × Travels (statedIn (c .input)) v g d r × (d < problem c .estimate v))
+
+lanes-plus-waits : (c : Call) → LanesPlusWaits c
+lanes-plus-waits c =
+    let s = statedIn (c .input) in
+    record { walks = walks-are-ways s; routes = routes-are-ways s; overstates = overstates-by-ways s }
+
 -- All demands, of a program.
 pub record Demands (P : Program) : Type 0 where
   pub demand-1 : (c : Call) (r : Result) → P c r → Demand1 c r
@@ -277,6 +296,7 @@ pub record Demands (P : Program) : Type 0 where
   pub demand-3 : Demand3 P
   pub counts-stay : (c : Call) (r : Result) → P c r → CountsStay c r
   pub longer-allowance : LongerAllowance P
+  pub lanes-plus-waits : (c : Call) → LanesPlusWaits c
 
 -- They hold of every program that keeps to the definition.
 pub demands : (P : Program) → Keeps P → Demands P
@@ -295,4 +315,5 @@ demands P keeps = record {
     sent-again = longer-allowance .sent-again;
     floor-below = λ c r g. longer-allowance .floor-below c r (keeps .only c r g);
   };
+  lanes-plus-waits = lanes-plus-waits;
 }

@@ -8,10 +8,10 @@ use lib.Dec.{eqb}
 use lib.ListN.{replicate}
 use Rattle.model.specs.Bytes.{put16, put32}
 use Rattle.model.specs.Framing.{Record, frame, putRecord}
-use Rattle.model.specs.Items.{headKind, arcKind, estimateKind, jobKind, measuredKind}
+use Rattle.model.specs.Items.{headKind, arcKind, estimateKind, jobKind, measuredKind, waitKind}
 use Rattle.model.specs.Stated.{stated}
 use Rattle.model.specs.Refusals.{wrongSize, refusal}
-use Rattle.model.specs.Jobs.{putHead, putArc, putMeasured, putEstimate, putJob}
+use Rattle.model.specs.Jobs.{putHead, putArc, putMeasured, putEstimate, putWait, putJob}
 use Rattle.model.specs.Sheets.{readSheet, hostAnswer}
 use Rattle.model.proofs.Compute.{compute}
 use Rattle.model.proofs.Runs.{Case, same, seven, over, agrees, agree, case, sheet9}
@@ -47,9 +47,9 @@ mapEdges =
     ∷ refused 1 (one ++ here ++ (0 ∷ []))
     ∷ refused 1 (one ++ here ++ (0 ∷ 0 ∷ 0 ∷ []))
     ∷ refused 1 (one ++ put16 11 ++ put16 jobKind ++ put16 0 ++ put32 9 ++ put16 1 ++ put16 0)
-    -- 2: kinds 0, 6 and 256 + 4
+    -- 2: kinds 0, 7 and 256 + 4
     ∷ refused 2 (one ++ here ++ (0 ∷ 0 ∷ 0 ∷ 0 ∷ []))
-    ∷ refused 2 (one ++ putRecord 6 [] ++ here)
+    ∷ refused 2 (one ++ putRecord 7 [] ++ here)
     ∷ refused 2 (one ++ putRecord 260 (put16 0 ++ put32 9 ++ put16 1 ++ put16 0))
     -- 3: bodies too long and too short; of a job also by its count of goals
     ∷ refused 3 (putRecord headKind (put16 1 ++ put16 0 ++ (0 ∷ [])) ++ here)
@@ -60,6 +60,8 @@ mapEdges =
     ∷ refused 3 (two 1 ++ putRecord measuredKind (put16 0 ++ put16 1 ++ put16 1) ++ here)
     ∷ refused 3 (two 0 ++ putRecord estimateKind (put16 1 ++ put32 1 ++ (0 ∷ [])) ++ here)
     ∷ refused 3 (two 0 ++ putRecord estimateKind (put16 1 ++ (1 ∷ 0 ∷ 0 ∷ [])) ++ here)
+    ∷ refused 3 (two 0 ++ putRecord waitKind (put16 1 ++ put16 1 ++ (0 ∷ [])) ++ here)
+    ∷ refused 3 (two 0 ++ putRecord waitKind (put16 1 ++ (1 ∷ [])) ++ here)
     ∷ refused 3 (one ++ putRecord jobKind (put16 0 ++ put32 9 ++ (0 ∷ [])))
     ∷ refused 3 (one ++ putRecord jobKind (put16 0 ++ put32 9 ++ put16 1 ++ put16 0 ++ put16 0))
     ∷ refused 3 (two 0 ++ putRecord jobKind (put16 0 ++ put32 9 ++ put16 2 ++ put16 0))
@@ -75,13 +77,16 @@ mapEdges =
     ∷ refused 5 (two 1 ++ putArc 0 1 1 ++ putMeasured 0 1 1 0 ++ here)
     ∷ refused 5 (two 0 ++ here ++ putMeasured 0 1 1 0)
     ∷ refused 5 (two 0 ++ here ++ putArc 0 1 1)
-    -- 6: the place N of an arc and of an estimate, beside the place N − 1
+    -- 6: the place N of an arc, of an estimate and of a wait, beside the place N − 1
     ∷ refused 6 (two 1 ++ putArc 2 1 1 ++ here)
     ∷ refused 6 (two 1 ++ putArc 0 2 1 ++ here)
     ∷ refused 6 (two 1 ++ putMeasured 2 1 1 0 ++ here)
     ∷ refused 6 (two 1 ++ putMeasured 0 2 1 0 ++ here)
     ∷ passes 2 0 (two 0 ++ putEstimate 1 1 ++ here)
     ∷ refused 6 (two 0 ++ putEstimate 2 1 ++ here)
+    ∷ passes 2 0 (two 0 ++ putWait 1 1 ++ here)
+    ∷ refused 6 (two 0 ++ putWait 2 1 ++ here)
+    ∷ refused 6 (two 0 ++ putWait 2 1 ++ putWait 2 1 ++ here)
     -- 7: an arc of cost 0, beside one of 1 (above) and one of 65,535
     ∷ refused 7 (two 1 ++ putArc 0 1 0 ++ here)
     ∷ passes 2 1 (two 1 ++ putArc 0 1 65535 ++ here)
@@ -103,6 +108,26 @@ mapEdges =
     ∷ refused 9 (two 1 ++ putMeasured 0 1 0 0 ++ putEstimate 1 5 ++ putEstimate 1 5 ++ here)
     ∷ refused 20 (two 1 ++ putMeasured 0 1 1 256)
     ∷ refused 20 (two 1 ++ here ++ putMeasured 0 1 0 0)
+    ∷ []
+
+-- 21: two equal waits for one place, two unequal ones and one of 0, beside waits for two places; a lane of either kind that costs 65,536 with its
+-- wait, beside one that costs 65,535; the wait is that of the place left, and where none is left any will do; after 20 and before 10
+waitEdges : List Case
+waitEdges =
+    refused 21 (two 0 ++ putWait 1 5 ++ putWait 1 5 ++ here)
+    ∷ refused 21 (two 0 ++ putWait 1 5 ++ putWait 1 6 ++ here)
+    ∷ refused 21 (two 0 ++ putWait 1 0 ++ putWait 1 0 ++ here)
+    ∷ passes 2 0 (two 0 ++ putWait 0 5 ++ putWait 1 5 ++ here)
+    ∷ passes 2 1 (two 1 ++ putArc 0 1 1 ++ putWait 0 65534 ++ here)
+    ∷ refused 21 (two 1 ++ putArc 0 1 1 ++ putWait 0 65535 ++ here)
+    ∷ passes 2 1 (two 1 ++ putWait 0 15 ++ putMeasured 0 1 4095 7 ++ here)
+    ∷ refused 21 (two 1 ++ putWait 0 16 ++ putMeasured 0 1 4095 7 ++ here)
+    ∷ passes 2 1 (two 1 ++ putArc 0 1 65535 ++ putWait 1 65535 ++ here)
+    ∷ refused 9 (two 0 ++ putWait 1 5 ++ putWait 1 5 ++ putEstimate 1 5 ++ putEstimate 1 5 ++ here)
+    ∷ refused 20 (two 1 ++ putWait 1 5 ++ putWait 1 5 ++ putMeasured 0 1 0 0 ++ here)
+    ∷ refused 21 (two 1 ++ putArc 0 1 1 ++ putWait 0 65535)
+    ∷ refused 21 (two 0 ++ putWait 1 5 ++ here ++ putWait 1 5)
+    ∷ refused 10 (two 0 ++ here ++ putWait 1 5)
     ∷ []
 
 jobEdges : List Case
@@ -152,8 +177,8 @@ roomEdges =
     ∷ lent 33 13 14
     ∷ []
 
-edges-agree : agree (mapEdges ++ jobEdges ++ roomEdges) ≡ true
-unfolding compute same seven over agrees agree case here sheet0 arrived passes refused one two mapEdges jobEdges lent roomEdges
+edges-agree : agree (mapEdges ++ waitEdges ++ jobEdges ++ roomEdges) ≡ true
+unfolding compute same seven over agrees agree case here sheet0 arrived passes refused one two mapEdges waitEdges jobEdges lent roomEdges
 edges-agree = refl
 
 -- ---- The largest numbers. Of whole inputs as large as these only the refusal can be computed, or one condition.

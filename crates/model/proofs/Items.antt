@@ -8,9 +8,9 @@ use borrow.Author.Tests.{eqb-true, eqb-false, ne-eqb}
 use Prim.Native.Nat.{ℕ}
 use Rattle.model.specs.Bytes.{u16}
 use Rattle.model.specs.Framing.{Record}
-use Rattle.model.specs.Items.{headKind, arcKind, estimateKind, jobKind, measuredKind}
-use Rattle.model.specs.Items.{flat, Lane, Item, head, lane, estimate, job, other}
-use Rattle.model.specs.Items.{headOf, laneOf, measuredOf, estimateOf, jobOf, itemOf, laneIn}
+use Rattle.model.specs.Items.{headKind, arcKind, estimateKind, jobKind, measuredKind, waitKind}
+use Rattle.model.specs.Items.{flat, Lane, PlaceValue, Item, head, lane, estimate, job, wait, other}
+use Rattle.model.specs.Items.{headOf, laneOf, measuredOf, estimateOf, jobOf, waitOf, itemOf, laneIn, waitIn}
 use Rattle.model.proofs.Lists.{none-some}
 
 module _ (r : Record) where
@@ -20,26 +20,31 @@ module _ (r : Record) where
     is-estimate : r .kind ≡ estimateKind → KindOf (estimate (estimateOf (r .body)))
     is-job : r .kind ≡ jobKind → KindOf (job (jobOf (r .body)))
     is-measured : r .kind ≡ measuredKind → KindOf (lane (measuredOf (r .body)))
-    is-other : r .kind ≢ headKind → r .kind ≢ arcKind → r .kind ≢ estimateKind → r .kind ≢ jobKind → r .kind ≢ measuredKind → KindOf other
+    is-wait : r .kind ≡ waitKind → KindOf (wait (waitOf (r .body)))
+    is-other : r .kind ≢ headKind → r .kind ≢ arcKind → r .kind ≢ estimateKind → r .kind ≢ jobKind → r .kind ≢ measuredKind
+        → r .kind ≢ waitKind → KindOf other
 
   pub kind-of : KindOf (itemOf r)
   unfolding itemOf
   kind-of =
       go (eqb (r .kind) headKind) (eqb (r .kind) arcKind) (eqb (r .kind) estimateKind) (eqb (r .kind) jobKind) (eqb (r .kind) measuredKind)
-      refl refl refl refl refl
+      (eqb (r .kind) waitKind)
+      refl refl refl refl refl refl
     where
-      go : (a b c d e : Bool) → eqb (r .kind) headKind ≡ a → eqb (r .kind) arcKind ≡ b → eqb (r .kind) estimateKind ≡ c
-          → eqb (r .kind) jobKind ≡ d → eqb (r .kind) measuredKind ≡ e
+      go : (a b c d e f : Bool) → eqb (r .kind) headKind ≡ a → eqb (r .kind) arcKind ≡ b → eqb (r .kind) estimateKind ≡ c
+          → eqb (r .kind) jobKind ≡ d → eqb (r .kind) measuredKind ≡ e → eqb (r .kind) waitKind ≡ f
           → KindOf (cond a (head (headOf (r .body))) (cond b (lane (laneOf (r .body)))
-          (cond c (estimate (estimateOf (r .body))) (cond d (job (jobOf (r .body))) (cond e (lane (measuredOf (r .body))) other)))))
-      go true b c d e p q s t u = is-head (eqb-true (r .kind) headKind p)
-      go false true c d e p q s t u = is-lane (eqb-true (r .kind) arcKind q)
-      go false false true d e p q s t u = is-estimate (eqb-true (r .kind) estimateKind s)
-      go false false false true e p q s t u = is-job (eqb-true (r .kind) jobKind t)
-      go false false false false true p q s t u = is-measured (eqb-true (r .kind) measuredKind u)
-      go false false false false false p q s t u =
+          (cond c (estimate (estimateOf (r .body))) (cond d (job (jobOf (r .body))) (cond e (lane (measuredOf (r .body)))
+          (cond f (wait (waitOf (r .body))) other))))))
+      go true b c d e f p q s t u v = is-head (eqb-true (r .kind) headKind p)
+      go false true c d e f p q s t u v = is-lane (eqb-true (r .kind) arcKind q)
+      go false false true d e f p q s t u v = is-estimate (eqb-true (r .kind) estimateKind s)
+      go false false false true e f p q s t u v = is-job (eqb-true (r .kind) jobKind t)
+      go false false false false true f p q s t u v = is-measured (eqb-true (r .kind) measuredKind u)
+      go false false false false false true p q s t u v = is-wait (eqb-true (r .kind) waitKind v)
+      go false false false false false false p q s t u v =
           is-other (eqb-false (r .kind) headKind p) (eqb-false (r .kind) arcKind q) (eqb-false (r .kind) estimateKind s)
-          (eqb-false (r .kind) jobKind t) (eqb-false (r .kind) measuredKind u)
+          (eqb-false (r .kind) jobKind t) (eqb-false (r .kind) measuredKind u) (eqb-false (r .kind) waitKind v)
 
   pub head-item : r .kind ≡ headKind → itemOf r ≡ head (headOf (r .body))
   unfolding itemOf
@@ -61,9 +66,14 @@ module _ (r : Record) where
   unfolding itemOf
   measured-item e = rw e
 
-  pub other-item : r .kind ≢ headKind → r .kind ≢ arcKind → r .kind ≢ estimateKind → r .kind ≢ jobKind → r .kind ≢ measuredKind → itemOf r ≡ other
+  pub wait-item : r .kind ≡ waitKind → itemOf r ≡ wait (waitOf (r .body))
   unfolding itemOf
-  other-item a b c d e = simp (ne-eqb _ _ a, ne-eqb _ _ b, ne-eqb _ _ c, ne-eqb _ _ d, ne-eqb _ _ e)
+  wait-item e = rw e
+
+  pub other-item : r .kind ≢ headKind → r .kind ≢ arcKind → r .kind ≢ estimateKind → r .kind ≢ jobKind → r .kind ≢ measuredKind
+      → r .kind ≢ waitKind → itemOf r ≡ other
+  unfolding itemOf
+  other-item a b c d e f = simp (ne-eqb _ _ a, ne-eqb _ _ b, ne-eqb _ _ c, ne-eqb _ _ d, ne-eqb _ _ e, ne-eqb _ _ f)
 
   -- a lane's flat cost is a field of the body
   pub flat-field : (l : Lane) (c : ℕ) → laneIn (itemOf r) ≡ some l → l .charge ≡ flat c → c ≡ u16 (r .body) 4
@@ -76,4 +86,18 @@ module _ (r : Record) where
       go (lane m) (is-measured q) e = cc
       go (estimate s) k e = none-some e
       go (job j) k e = none-some e
+      go (wait w) k e = none-some e
+      go other k e = none-some e
+
+  -- and so is a wait
+  pub wait-field : (w : PlaceValue) → waitIn (itemOf r) ≡ some w → w .value ≡ u16 (r .body) 2
+  unfolding waitIn waitOf
+  wait-field w e = go (itemOf r) kind-of e
+    where
+      go : (i : Item) → KindOf i → waitIn i ≡ some w → w .value ≡ u16 (r .body) 2
+      go (head s) k e = none-some e
+      go (lane m) k e = none-some e
+      go (estimate s) k e = none-some e
+      go (job j) k e = none-some e
+      go (wait w) (is-wait q) e = cc
       go other k e = none-some e

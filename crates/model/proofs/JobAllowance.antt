@@ -10,11 +10,12 @@ use lib.ListN.{length, length-append}
 use borrow.Author.Tests.{eqb-true, not-false}
 use Rattle.model.specs.Lists.{any, isGiven, consIf, filterMap}
 use Rattle.model.specs.Framing.{Record, Framed}
-use Rattle.model.specs.Items.{Size, Item, job, Job, itemOf, items, bodyLength, misfits, sizeIn, laneIn, estimateIn, jobIn}
-use Rattle.model.specs.Stated.{Stated, noSize, noJob, statedBy, stated, problemOf}
+use Rattle.model.specs.Items.{Size, Item, job, Job, itemOf, items, bodyLength, misfits, sizeIn, laneIn, estimateIn, jobIn, waitIn}
+use Rattle.model.specs.Stated.{Stated, noSize, noJob, statedBy, stated, laneCost, waitAt, arcOf, problemOf}
 use Rattle.model.specs.Refusals.{unknownKind, wrongLength, beginsWithHead, wrongHead, wrongSize, outsideMap, freeArc}
-use Rattle.model.specs.Refusals.{largeEstimate, twoEstimates, wrongMeasure, endsWithJob, wrongJob, jobOutsideMap, wrongGoals, goalEstimate}
-use Rattle.model.specs.Refusals.{formRows, sizeRows, mapRows, jobRows, inputRows, roomRows, rows, holdsAt, refusal}
+use Rattle.model.specs.Refusals.{largeEstimate, twoEstimates, wrongMeasure, wrongWait, endsWithJob, wrongJob}
+use Rattle.model.specs.Refusals.{jobOutsideMap, wrongGoals, goalEstimate}
+use Rattle.model.specs.Refusals.{formRows, sizeRows, mapRows, costRows, jobRows, inputRows, roomRows, rows, holdsAt, refusal}
 use Rattle.model.proofs.Lists.{neither}
 use Rattle.model.proofs.Tests.{any-append, filterMap-append}
 use Rattle.model.proofs.Rows.{row-fails, rows-numbered}
@@ -31,13 +32,14 @@ record SameStated (s t : Stated) : Type 0 where
   size : s .size ≡ t .size
   lanes : s .lanes ≡ t .lanes
   estimates : s .estimates ≡ t .estimates
+  waits : s .waits ≡ t .waits
   factors : s .factors ≡ t .factors
   growth : s .growth ≡ t .growth
   job : SameJob (s .job) (t .job)
 
 same-problem : {s t : Stated} → SameStated s t → problemOf s ≡ problemOf t
-unfolding problemOf
-same-problem e = rw (e .size, e .lanes, e .estimates, e .factors, e .growth, e .job .start, e .job .goals) refl
+unfolding problemOf laneCost waitAt arcOf
+same-problem e = rw (e .size, e .lanes, e .estimates, e .waits, e .factors, e .growth, e .job .start, e .job .goals) refl
 
 module _ (is ls : List Item) (j k : Job) (same : SameJob j k) where
   abbrev with : Job → List Item
@@ -58,11 +60,12 @@ module _ (is ls : List Item) (j k : Job) (same : SameJob j k) where
   others f says = rw (filterMap-append f is (job j ∷ ls), filterMap-append f is (job k ∷ ls), says j, says k) refl
 
   same-stated : SameStated (statedBy (with j)) (statedBy (with k))
-  unfolding statedBy sizeIn laneIn estimateIn
+  unfolding statedBy sizeIn laneIn estimateIn waitIn
   same-stated = record {
     size = ap (λ (l : List Size). headD l noSize) (others sizeIn (λ i. refl));
     lanes = others laneIn (λ i. refl);
     estimates = others estimateIn (λ i. refl);
+    waits = others waitIn (λ i. refl);
     factors = refl;
     growth = refl;
     job = first-job;
@@ -102,9 +105,10 @@ module _ (is ls : List Item) (j k : Job) (same : SameJob j k) where
       rw (same-end is, first, second, length-append js (j ∷ rest), length-append js (k ∷ rest)) refl
 
 same-rows : {s t : Stated} → SameStated s t → (is hs : List Item) → wrongJob is ≡ wrongJob hs
-    → sizeRows s ++ (mapRows s ++ jobRows is s) ≡ sizeRows t ++ (mapRows t ++ jobRows hs t)
-unfolding sizeRows mapRows jobRows wrongSize outsideMap freeArc largeEstimate twoEstimates wrongMeasure jobOutsideMap wrongGoals goalEstimate
-same-rows e is hs jobs = rw (e .size, e .lanes, e .estimates, e .job .start, e .job .goals, jobs) refl
+    → sizeRows s ++ (mapRows s ++ (costRows s ++ jobRows is s)) ≡ sizeRows t ++ (mapRows t ++ (costRows t ++ jobRows hs t))
+unfolding sizeRows mapRows costRows jobRows wrongSize outsideMap freeArc largeEstimate twoEstimates wrongMeasure wrongWait
+    jobOutsideMap wrongGoals goalEstimate laneCost waitAt arcOf
+same-rows e is hs jobs = rw (e .size, e .lanes, e .estimates, e .waits, e .factors, e .job .start, e .job .goals, jobs) refl
 
 pub items-with : (rs ls : List Record) (r : Record) (j : Job) → itemOf r ≡ job j → items (rs ++ (r ∷ ls)) ≡ items rs ++ (job j ∷ items ls)
 unfolding items
@@ -156,7 +160,7 @@ pub record OneLastJob (f : Framed) : Type 0 where
   pub last : endsWithJob (items (f .records)) ≡ true
 
 pub one-last-job : (f : Framed) (words bytes : ℕ) → refusal f words bytes ≡ 0 → OneLastJob f
-unfolding refusal rows inputRows formRows sizeRows mapRows jobRows roomRows holdsAt wrongJob
+unfolding refusal rows inputRows formRows sizeRows mapRows costRows jobRows roomRows holdsAt wrongJob
 one-last-job f words bytes A =
     let no-row = row-fails (rows f words bytes) (rows-numbered f words bytes) A in
     let jobs = neither (not (eqb (length (filterMap jobIn (items (f .records)))) 1)) (not (endsWithJob (items (f .records)))) (no-row 10) in

@@ -5,6 +5,8 @@
 pub use Rattle.model.proofs.Acceptance.{accepted-valid}
 -- A lane costs 1 to 65,535 whatever its kind, under every table that has a factor from 1 to 16 for each class; the fixed one has.
 pub use Rattle.model.proofs.Charges.{lane-cost-above, lane-cost-below, fixed-table}
+-- The problem's walks are just the ways over the lanes that are stated, and cost lanes plus waits.
+pub use Rattle.model.proofs.Ways.{walks-are-ways}
 -- ---- Least costs
 
 -- The table of C holds exactly the least costs of paths within C. Every path within C leads to a place that has an entry, of at most the path's

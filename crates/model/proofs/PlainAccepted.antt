@@ -10,18 +10,18 @@ use borrow.Author.Tests.{le-ltb, lt-leb, eq-eqb, ne-eqb}
 use Rattle.model.specs.Lists.{any, consIf, filterMap, isGiven, repeats, rises}
 use Rattle.model.specs.Bytes.{u16, u16s, put16, put32, put16s}
 use Rattle.model.specs.Framing.{Record}
-use Rattle.model.specs.Limits.{maxPlaces, maxArcs}
+use Rattle.model.specs.Limits.{maxPlaces, maxArcs, maxCost}
 use Rattle.model.specs.Problem.{Arc, Valid}
 use Rattle.model.specs.Items.{arcKind, Lane, Item, lane, laneOf, jobOf, itemOf, chargeBytes, bodyLength, otherThan, misfits, sizeIn, jobIn}
 use Rattle.model.specs.Stated.{lookup}
 use Rattle.model.specs.Refusals.{unknownKind, wrongLength, beginsWithHead, wrongHead, wrongSize, outsideMap, isFree, freeArc}
-use Rattle.model.specs.Refusals.{largeEstimate, twoEstimates, mismeasured, wrongMeasure}
+use Rattle.model.specs.Refusals.{largeEstimate, twoEstimates, mismeasured, wrongMeasure, wrongWait}
 use Rattle.model.specs.Refusals.{endsWithJob, wrongJob, jobOutsideMap, wrongGoals, goalEstimate}
-use Rattle.model.specs.Refusals.{shortWork, shortSheet, formRows, sizeRows, mapRows, jobRows, inputRows, roomRows, rows}
+use Rattle.model.specs.Refusals.{shortWork, shortSheet, formRows, sizeRows, mapRows, costRows, jobRows, inputRows, roomRows, rows}
 use Rattle.model.specs.Refusals.{firstThatHolds, refusal, Accepted}
 use Rattle.model.proofs.Tests.{any-none, or-none}
 use Rattle.model.proofs.PlainJobs.{plain, plainJob, withArcs, plainRecords, plain-framed, flatLane, plainItems, plainStated}
-use Rattle.model.proofs.PlainJobs.{lanes-give-none, plain-said, plain-stated}
+use Rattle.model.proofs.PlainJobs.{lanes-give-none, plain-said, plain-arc, plain-stated}
 
 -- ---- Conditions on the records themselves
 
@@ -74,7 +74,8 @@ module _ (arcs : List Arc) (start goal : ℕ) (few : length arcs ≤ maxArcs) (o
 
   inside-map : outsideMap (plainStated arcs start goal) ≡ false
   unfolding outsideMap plainStated plain any
-  inside-map = or-none (any _ (map flatLane arcs)) false (any-none _ (map flatLane arcs) inside) refl
+  inside-map =
+      or-none (any _ (map flatLane arcs) || false) false (or-none (any _ (map flatLane arcs)) false (any-none _ (map flatLane arcs) inside) refl) refl
     where
       inside : (l : Lane) → List·Memᴰ l (map flatLane arcs) → leb maxPlaces (l .from) || leb maxPlaces (l .to) ≡ false
       inside l i =
@@ -91,6 +92,13 @@ module _ (arcs : List Arc) (start goal : ℕ) (few : length arcs ≤ maxArcs) (o
   no-wrong-measure : wrongMeasure (plainStated arcs start goal) ≡ false
   unfolding wrongMeasure mismeasured plainStated
   no-wrong-measure = any-none _ (map flatLane arcs) λ l i. let (a, j, is) = Memᴰ·of-map flatLane arcs i in rw (← is)
+
+  no-wrong-wait : wrongWait (plainStated arcs start goal) ≡ false
+  unfolding wrongWait plainStated plain repeats
+  no-wrong-wait =
+      any-none _ (map flatLane arcs) λ l i.
+      let (a, j, is) = Memᴰ·of-map flatLane arcs i in
+      rw (← is, plain-arc (plainStated arcs start goal) refl a) (le-ltb maxCost (a .cost) (ok .cost-below a j))
 
   no-bad-estimate : (largeEstimate (plainStated arcs start goal) ≡ false) × (twoEstimates (plainStated arcs start goal) ≡ false)
   unfolding largeEstimate twoEstimates plainStated any repeats
@@ -114,7 +122,7 @@ module _ (arcs : List Arc) (start goal : ℕ) (few : length arcs ≤ maxArcs) (o
 
   pub plain-accepted : (words bytes : ℕ) → 16 * maxPlaces + 2 * length arcs ≤ words → 10 + 2 * maxPlaces ≤ bytes
       → Accepted (plainJob arcs start goal) words bytes
-  unfolding refusal rows inputRows formRows sizeRows mapRows jobRows roomRows firstThatHolds
+  unfolding refusal rows inputRows formRows sizeRows mapRows costRows jobRows roomRows firstThatHolds
   plain-accepted words bytes h k =
       rw (
         plain-framed arcs start goal,
@@ -129,6 +137,7 @@ module _ (arcs : List Arc) (start goal : ℕ) (few : length arcs ≤ maxArcs) (o
         no-bad-estimate .0,
         no-bad-estimate .1,
         no-wrong-measure,
+        no-wrong-wait,
         right-job arcs start goal,
         job-inside-map,
         right-goals .0,

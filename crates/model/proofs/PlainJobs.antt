@@ -1,10 +1,10 @@
 -- The job of a problem with 4,096 places, no estimates and one goal states that problem. Assumes nothing.
-use mathlib.Core.Path.{_≡_, refl, sym, ap, _∙_}
+use mathlib.Core.Path.{_≡_, refl, sym, ap, ap₂, _∙_}
 use mathlib.Core.Bool.{false}
 use mathlib.Core.List.{List, [], _∷_, _++_, map, headD, append-nil, append-assoc}
 use mathlib.Core.List.{List·Memᴰ, List·Memᴰ·head, List·Memᴰ·tail, List·Memᴰ·not-nil}
 use mathlib.Core.Option.{Option, none}
-use Prim.Native.Nat.{ℕ, _≤_, _<_}
+use Prim.Native.Nat.{ℕ, _+_, _≤_, _<_}
 use native.Mathlib.Omega.{arith}
 use lib.ListN.{length}
 use Rattle.model.specs.Lists.{filterMap, consIf}
@@ -13,8 +13,8 @@ use Rattle.model.specs.Framing.{Record, frame, putRecord}
 use Rattle.model.specs.Limits.{maxPlaces, maxArcs}
 use Rattle.model.specs.Problem.{Problem, Arc, Valid}
 use Rattle.model.specs.Items.{headKind, arcKind, jobKind, Lane, flat, Item, head, lane, job, headOf, laneOf, jobOf, itemOf, items}
-use Rattle.model.specs.Items.{sizeIn, laneIn, estimateIn, jobIn}
-use Rattle.model.specs.Stated.{Stated, fixedFactors, statedBy, stated, lookup, costUnder, arcUnder, problemOf}
+use Rattle.model.specs.Items.{sizeIn, laneIn, estimateIn, jobIn, waitIn}
+use Rattle.model.specs.Stated.{Stated, fixedFactors, statedBy, stated, lookup, costUnder, laneCost, waitAt, arcOf, problemOf}
 use Rattle.model.specs.Jobs.{putHead, putArc, putJob, ample}
 use Rattle.model.proofs.Bytes.{two-bytes, append-bytes, put16-is-bytes, put32-is-bytes, put16s-is-bytes}
 use Rattle.model.proofs.Records.{putRecords, Fits, AllFit, putRecords-is-bytes, frame-records}
@@ -144,6 +144,7 @@ plainStated arcs start goal =
       size = record { places = maxPlaces; arcs = length arcs };
       lanes = map flatLane arcs;
       estimates = [];
+      waits = [];
       factors = fixedFactors;
       growth = 2;
       job = record { start = start; allowance = ample; goals = goal ∷ [] };
@@ -162,29 +163,37 @@ lanes-given [] is = refl
 lanes-given (a ∷ arcs) is = ap {B = List Lane} (λ ls. flatLane a ∷ ls) (lanes-given arcs is)
 
 pub plain-states : (arcs : List Arc) (start goal : ℕ) → statedBy (plainItems arcs start goal) ≡ plainStated arcs start goal
-unfolding plainItems plainStated statedBy filterMap consIf sizeIn laneIn estimateIn jobIn headD
+unfolding plainItems plainStated statedBy filterMap consIf sizeIn laneIn estimateIn jobIn waitIn headD
 plain-states arcs start goal =
     let last : List Item = job (record { start = start; allowance = ample; goals = goal ∷ [] }) ∷ [] in
     let jobs = lanes-give-none jobIn (λ a. refl) arcs last in
     let estimates = lanes-give-none estimateIn (λ a. refl) arcs last in
+    let waits = lanes-give-none waitIn (λ a. refl) arcs last in
     let lanes = lanes-given arcs last ∙ append-nil (map flatLane arcs) in
     λ i. record {
       size = record { places = maxPlaces; arcs = length arcs };
       lanes = lanes i;
       estimates = estimates i;
+      waits = waits i;
       factors = fixedFactors;
       growth = 2;
       job = headD (jobs i) (record { start = 0; allowance = 0; goals = [] });
     }
 
-arcs-back : (factors : List ℕ) (arcs : List Arc) → map (arcUnder factors) (map flatLane arcs) ≡ arcs
-unfolding arcUnder costUnder
-arcs-back factors [] = refl
-arcs-back factors (a ∷ arcs) = ap {B = List Arc} (λ bs. a ∷ bs) (arcs-back factors arcs)
+-- where no place waits, the arc of a flat lane costs what the lane does
+pub plain-arc : (s : Stated) → s .waits ≡ [] → (a : Arc) → arcOf s (flatLane a) ≡ a
+unfolding arcOf laneCost waitAt costUnder lookup
+plain-arc s no-wait a =
+    let cost : a .cost + lookup 0 (s .waits) (a .from) ≡ a .cost = rw no-wait (omega arith) in
+    λ i. record { from = a .from; to = a .to; cost = cost i }
+
+arcs-back : (s : Stated) → s .waits ≡ [] → (arcs : List Arc) → map (arcOf s) (map flatLane arcs) ≡ arcs
+arcs-back s no-wait [] = refl
+arcs-back s no-wait (a ∷ arcs) = ap₂ {C = List Arc} _∷_ (plain-arc s no-wait a) (arcs-back s no-wait arcs)
 
 pub plain-problem : (arcs : List Arc) (start goal : ℕ) → problemOf (plainStated arcs start goal) ≡ plain arcs start goal
 unfolding plain problemOf plainStated lookup
-plain-problem arcs start goal = rw (arcs-back fixedFactors arcs)
+plain-problem arcs start goal = rw (arcs-back (plainStated arcs start goal) refl arcs)
 
 -- ---- The fields are read back
 

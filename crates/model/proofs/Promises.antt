@@ -90,7 +90,7 @@ pub comes : (c : Call) → IsAccepted c → EndsAs (endingOf c) (result c)
 comes c A = rw (accepted-call budgeted c A) (ended-comes (endingOf c) (workWords (statedIn (c .input) .size)) (c .work) (c .sheet))
 
 pub valid : (c : Call) → IsAccepted c → Valid (problem c)
-valid c A = accepted-valid (c .input) (length (c .work)) (length (c .sheet)) (c .bytes) A
+valid c A = accepted-valid (c .input) (length (c .work)) (length (c .sheet)) A
 
 pub ends : (c : Call) → IsAccepted c → Ends (problem c) (allowance c) (endingOf c)
 ends c A = budgeted-ends (problem c) (allowance c) (valid c A)

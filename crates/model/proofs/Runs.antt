@@ -1,5 +1,5 @@
 -- Document 01, "Runs by hand": P1 to P10 as rows of one table, and the table as one theorem, computed from the definitions; then runs with
--- several goals, one over lanes of all classes, and some where the fewest places decide.
+-- several goals, one over lanes of all classes, some where the fewest places decide, and some with waits.
 use mathlib.Core.Path.{_≡_, refl}
 use mathlib.Core.Bool.{Bool, true, false, _&&_}
 use mathlib.Core.List.{List, [], _∷_, _++_}
@@ -9,7 +9,7 @@ use lib.Dec.{eqb}
 use lib.ListN.{length, replicate}
 use Rattle.model.specs.Bytes.{put16, put32, put16s}
 use Rattle.model.specs.Framing.{putRecord}
-use Rattle.model.specs.Jobs.{putHead, putArc, putMeasured, putEstimate, putJob}
+use Rattle.model.specs.Jobs.{putHead, putArc, putMeasured, putEstimate, putWait, putJob}
 use Rattle.model.specs.Problem.{Problem}
 use Rattle.model.specs.Costs.{table}
 use Rattle.model.specs.Query.{nextLimit}
@@ -226,3 +226,32 @@ fewestRuns =
 fewest-runs-agree : agree fewestRuns ≡ true
 unfolding compute nineOrFour nearerGoal equalCounts hiddenWay same seven over agrees agree case numbers routeSheetOf fewestRuns
 fewest-runs-agree = refl
+
+-- Document 02, paper 5: by way of 1 at cost 4 + 2 + 5 + 2, of 2 at 4 + 3 + 3; without the waits at 4 and 6. The start waits, and so does the goal,
+-- which nobody leaves.
+doors : List ℕ
+doors =
+    putHead 4 4
+    ++ putArc 0 1 2 ++ putArc 1 3 2 ++ putArc 0 2 3 ++ putArc 2 3 3
+    ++ putWait 1 5 ++ putEstimate 2 3 ++ putWait 3 9 ++ putWait 0 4
+
+-- lanes of both kinds as dear as they may be with their waits
+dearLane : List ℕ
+dearLane = putHead 2 1 ++ putArc 0 1 65530 ++ putWait 0 5 ++ putWait 1 65535
+
+dearMeasure : List ℕ
+dearMeasure = putHead 2 1 ++ putWait 0 15 ++ putMeasured 0 1 4095 7
+
+-- their numbers are those of tests/reference.py
+waitRuns : List Case
+waitRuns =
+    case (doors ++ putJob 0 944 (3 ∷ [])) (numbers 0 10 20 0 16 10 16) 72 (routeSheetOf 10 (0 ∷ 2 ∷ 3 ∷ []))
+    ∷ case (doors ++ putJob 1 944 (3 ∷ [])) (numbers 0 7 14 0 2 2 14) 72 (routeSheetOf 7 (1 ∷ 3 ∷ []))
+    ∷ case (doors ++ putJob 3 944 (3 ∷ [])) (numbers 0 0 0 0 0 1 12) 72 sheet6
+    ∷ case (dearLane ++ putJob 0 472 (1 ∷ [])) (numbers 0 65535 131070 0 2 2 14) 34 (routeSheetOf 65535 (0 ∷ 1 ∷ []))
+    ∷ case (dearMeasure ++ putJob 0 472 (1 ∷ [])) (numbers 0 65535 131070 0 2 2 14) 34 (routeSheetOf 65535 (0 ∷ 1 ∷ []))
+    ∷ []
+
+wait-runs-agree : agree waitRuns ≡ true
+unfolding compute doors dearLane dearMeasure same seven over agrees agree case numbers routeSheetOf sheet6 waitRuns
+wait-runs-agree = refl

@@ -1,10 +1,11 @@
 -- Sums of the numbers that a function gives. Assumes nothing.
 use mathlib.Core.Path.{_≡_, refl}
+use mathlib.Core.List.{List, [], _∷_, _++_}
 use Prim.Native.Nat.{ℕ, zero, suc, _+_, _≤_, _<_}
 use native.Mathlib.Numerals.{add-one}
 use native.Mathlib.Decide.{le-ind}
 use native.Mathlib.Omega.{arith}
-use Rattle.model.specs.Sums.{sumBelow}
+use Rattle.model.specs.Sums.{sumBelow, sumOver}
 
 pub sum-rises : (f : ℕ → ℕ) (j k : ℕ) → j ≤ k → sumBelow f j ≤ sumBelow f k
 unfolding sumBelow
@@ -23,3 +24,8 @@ sum-next f k = rw add-one
 -- a number and the sum before it are within the sum of all
 pub sum-within : (f : ℕ → ℕ) (v k : ℕ) → v < k → sumBelow f v + f v ≤ sumBelow f k
 sum-within f v k l = omega (arith, sum-next f v, sum-rises f (v + 1) k (omega arith))
+
+pub over-snoc : {A : Type 0} (f : A → ℕ) (xs : List A) (x : A) → sumOver f (xs ++ (x ∷ [])) ≡ sumOver f xs + f x
+unfolding sumOver
+over-snoc f [] x = omega arith
+over-snoc f (y ∷ ys) x = omega (arith, over-snoc f ys x)

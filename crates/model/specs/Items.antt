@@ -24,6 +24,10 @@ jobKind = 4
 abbrev pub measuredKind : ℕ
 measuredKind = 5
 
+-- a wait at a place
+abbrev pub waitKind : ℕ
+waitKind = 6
+
 -- how many bytes a body has; a job's, before its goals
 abbrev pub headBytes : ℕ
 headBytes = 4
@@ -39,6 +43,9 @@ jobBytes = 8
 
 abbrev pub measuredBytes : ℕ
 measuredBytes = 8
+
+abbrev pub waitBytes : ℕ
+waitBytes = 4
 
 -- head: places N, arcs M
 pub record Size : Type 0 where
@@ -56,7 +63,8 @@ pub record Lane : Type 0 where
   pub to : ℕ
   pub charge : Charge
 
-pub record Estimate : Type 0 where
+-- A number for a place: what an estimate's record says, and what a wait's does.
+pub record PlaceValue : Type 0 where
   pub place : ℕ
   pub value : ℕ
 
@@ -69,8 +77,9 @@ pub record Job : Type 0 where
 pub data Item : Type 0 where
   head : Size → Item
   lane : Lane → Item
-  estimate : Estimate → Item
+  estimate : PlaceValue → Item
   job : Job → Item
+  wait : PlaceValue → Item
   -- a kind that the papers do not have
   other : Item
 
@@ -87,12 +96,16 @@ unfoldable pub measuredOf : List ℕ → Lane
 measuredOf b = record { from = u16 b 0; to = u16 b 2; charge = measured (u16 b 4) (u16 b 6) }
 
 -- estimate: place (2), estimate (4)
-unfoldable pub estimateOf : List ℕ → Estimate
+unfoldable pub estimateOf : List ℕ → PlaceValue
 estimateOf b = record { place = u16 b 0; value = u32 b 2 }
 
 -- job: start (2), allowance (4), goal count k (2), k goals (2 each)
 unfoldable pub jobOf : List ℕ → Job
 jobOf b = record { start = u16 b 0; allowance = u32 b 2; goals = u16s (u16 b 6) b jobBytes }
+
+-- Document 02, paper 5: "Record kind 6 gives a place (2 bytes) a wait (2 bytes, 0 to 65,535)"
+unfoldable pub waitOf : List ℕ → PlaceValue
+waitOf b = record { place = u16 b 0; value = u16 b 2 }
 
 unfoldable pub itemOf : Record → Item
 itemOf r =
@@ -101,7 +114,8 @@ itemOf r =
     (cond (eqb (r .kind) arcKind) (lane (laneOf b))
     (cond (eqb (r .kind) estimateKind) (estimate (estimateOf b))
     (cond (eqb (r .kind) jobKind) (job (jobOf b))
-    (cond (eqb (r .kind) measuredKind) (lane (measuredOf b)) other))))
+    (cond (eqb (r .kind) measuredKind) (lane (measuredOf b))
+    (cond (eqb (r .kind) waitKind) (wait (waitOf b)) other)))))
 
 unfoldable pub chargeBytes : Charge → ℕ
 chargeBytes (flat cost) = arcBytes
@@ -113,6 +127,7 @@ bodyLength (head s) = some headBytes
 bodyLength (lane l) = some (chargeBytes (l .charge))
 bodyLength (estimate e) = some estimateBytes
 bodyLength (job j) = some (jobBytes + 2 * length (j .goals))
+bodyLength (wait w) = some waitBytes
 bodyLength other = none
 
 unfoldable pub otherThan : Option ℕ → ℕ → Bool
@@ -132,6 +147,7 @@ sizeIn (head s) = some s
 sizeIn (lane l) = none
 sizeIn (estimate e) = none
 sizeIn (job j) = none
+sizeIn (wait w) = none
 sizeIn other = none
 
 unfoldable pub laneIn : Item → Option Lane
@@ -139,13 +155,15 @@ laneIn (head s) = none
 laneIn (lane l) = some l
 laneIn (estimate e) = none
 laneIn (job j) = none
+laneIn (wait w) = none
 laneIn other = none
 
-unfoldable pub estimateIn : Item → Option Estimate
+unfoldable pub estimateIn : Item → Option PlaceValue
 estimateIn (head s) = none
 estimateIn (lane l) = none
 estimateIn (estimate e) = some e
 estimateIn (job j) = none
+estimateIn (wait w) = none
 estimateIn other = none
 
 unfoldable pub jobIn : Item → Option Job
@@ -153,4 +171,13 @@ jobIn (head s) = none
 jobIn (lane l) = none
 jobIn (estimate e) = none
 jobIn (job j) = some j
+jobIn (wait w) = none
 jobIn other = none
+
+unfoldable pub waitIn : Item → Option PlaceValue
+waitIn (head s) = none
+waitIn (lane l) = none
+waitIn (estimate e) = none
+waitIn (job j) = none
+waitIn (wait w) = some w
+waitIn other = none

@@ -7,7 +7,7 @@ use lib.ListN.{length}
 use Rattle.model.specs.Bytes.{put16, put32, put16s}
 use Rattle.model.specs.Framing.{putRecord}
 use Rattle.model.specs.Limits.{maxPlaces, maxCost}
-use Rattle.model.specs.Items.{headKind, arcKind, estimateKind, jobKind, measuredKind, Charge, flat, measured, Lane}
+use Rattle.model.specs.Items.{headKind, arcKind, estimateKind, jobKind, measuredKind, waitKind, Charge, flat, measured, Lane}
 
 unfoldable pub putHead : ℕ → ℕ → List ℕ
 putHead n m = putRecord headKind (put16 n ++ put16 m)
@@ -28,6 +28,9 @@ putLane l = putCharged (l .from) (l .to) (l .charge)
 
 unfoldable pub putEstimate : ℕ → ℕ → List ℕ
 putEstimate v h = putRecord estimateKind (put16 v ++ put32 h)
+
+unfoldable pub putWait : ℕ → ℕ → List ℕ
+putWait v w = putRecord waitKind (put16 v ++ put16 w)
 
 unfoldable pub putJob : ℕ → ℕ → List ℕ → List ℕ
 putJob start allowance goals =

@@ -9,6 +9,7 @@ pub mod Problem
 pub mod Paths
 pub mod Items
 pub mod Stated
+pub mod Ways
 pub mod Refusals
 pub mod Costs
 pub mod Query

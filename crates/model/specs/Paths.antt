@@ -21,6 +21,11 @@ unfoldable pub places : {p : Problem} {u v d : ℕ} → Walk p u v d → List �
 places {u = u} stay = u ∷ []
 places (on a i w) = places w ++ (a .to ∷ [])
 
+-- a walk along the places r
+pub record WalkAlong (p : Problem) (u v d : ℕ) (r : List ℕ) : Type 0 where
+  pub walk : Walk p u v d
+  pub in-order : places walk ≡ r
+
 -- how many arcs it has
 unfoldable pub arcCount : {p : Problem} {u v d : ℕ} → Walk p u v d → ℕ
 arcCount stay = 0

@@ -8,9 +8,9 @@ use lib.Dec.{ltb, leb, eqb}
 use lib.ListN.{length}
 use Rattle.model.specs.Lists.{any, filterMap, isGiven, repeats, rises}
 use Rattle.model.specs.Framing.{Record, Framed, frame}
-use Rattle.model.specs.Limits.{maxPlaces, maxArcs, maxEstimate, maxGoals, maxLength, maxClass}
-use Rattle.model.specs.Items.{Size, Charge, flat, measured, Lane, Estimate, Item, bodyLength, misfits, items, sizeIn, jobIn}
-use Rattle.model.specs.Stated.{Stated, stated, lookup}
+use Rattle.model.specs.Limits.{maxPlaces, maxArcs, maxCost, maxEstimate, maxGoals, maxLength, maxClass}
+use Rattle.model.specs.Items.{Size, Charge, flat, measured, Lane, PlaceValue, Item, bodyLength, misfits, items, sizeIn, jobIn}
+use Rattle.model.specs.Stated.{Stated, stated, lookup, arcOf}
 
 -- ---- Form: what records there are
 
@@ -41,12 +41,21 @@ wrongSize s =
 
 -- ---- Map
 
--- 6: "an arc or estimate names a place of N or above"
+-- the places that numbers are given for
+abbrev pub placesIn : List PlaceValue → List ℕ
+placesIn xs = map (λ (x : PlaceValue). x .place) xs
+
+-- one of them is n or above
+abbrev pub namesOutside : ℕ → List PlaceValue → Bool
+namesOutside n xs = any (λ (x : PlaceValue). leb n (x .place)) xs
+
+-- 6: "an arc or estimate names a place of N or above"; document 02, paper 5, of a wait: "A place of N or above is still 6."
 unfoldable pub outsideMap : Stated → Bool
 outsideMap s =
     let n = s .size .places in
     any (λ (l : Lane). leb n (l .from) || leb n (l .to)) (s .lanes)
-    || any (λ (e : Estimate). leb n (e .place)) (s .estimates)
+    || namesOutside n (s .estimates)
+    || namesOutside n (s .waits)
 
 unfoldable pub isFree : Charge → Bool
 isFree (flat cost) = eqb cost 0
@@ -58,11 +67,11 @@ freeArc s = any (λ (l : Lane). isFree (l .charge)) (s .lanes)
 
 -- 8: "an estimate above 268,435,455"
 unfoldable pub largeEstimate : Stated → Bool
-largeEstimate s = any (λ (e : Estimate). ltb maxEstimate (e .value)) (s .estimates)
+largeEstimate s = any (λ (e : PlaceValue). ltb maxEstimate (e .value)) (s .estimates)
 
 -- 9: "two estimates for one place"
 unfoldable pub twoEstimates : Stated → Bool
-twoEstimates s = repeats (map (λ (e : Estimate). e .place) (s .estimates))
+twoEstimates s = repeats (placesIn (s .estimates))
 
 unfoldable pub mismeasured : Charge → Bool
 mismeasured (flat cost) = false
@@ -71,6 +80,12 @@ mismeasured (measured length class) = ltb length 1 || ltb maxLength length || lt
 -- 20: "a kind 5 record with a length or class out of range"
 unfoldable pub wrongMeasure : Stated → Bool
 wrongMeasure s = any (λ (l : Lane). mismeasured (l .charge)) (s .lanes)
+
+-- ---- Costs
+
+-- 21: "Two waits for one place, or an arc whose cost with its wait exceeds 65,535"
+unfoldable pub wrongWait : Stated → Bool
+wrongWait s = repeats (placesIn (s .waits)) || any (λ (l : Lane). ltb maxCost (arcOf s l .cost)) (s .lanes)
 
 -- ---- Job
 
@@ -141,6 +156,10 @@ sizeRows s = row 5 (wrongSize s) ∷ []
 unfoldable pub mapRows : Stated → List Row
 mapRows s = row 6 (outsideMap s) ∷ row 7 (freeArc s) ∷ row 8 (largeEstimate s) ∷ row 9 (twoEstimates s) ∷ row 20 (wrongMeasure s) ∷ []
 
+-- "after 20 and before 10"
+unfoldable pub costRows : Stated → List Row
+costRows s = row 21 (wrongWait s) ∷ []
+
 unfoldable pub jobRows : List Item → Stated → List Row
 jobRows is s = row 10 (wrongJob is) ∷ row 11 (jobOutsideMap s) ∷ row 12 (wrongGoals s) ∷ row 13 (goalEstimate s) ∷ []
 
@@ -148,7 +167,7 @@ jobRows is s = row 10 (wrongJob is) ∷ row 11 (jobOutsideMap s) ∷ row 12 (wro
 unfoldable pub inputRows : Framed → List Row
 inputRows f =
     let s = stated (f .records) in
-    formRows f ++ (sizeRows s ++ (mapRows s ++ jobRows (items (f .records)) s))
+    formRows f ++ (sizeRows s ++ (mapRows s ++ (costRows s ++ jobRows (items (f .records)) s)))
 
 -- of what is lent to a route
 unfoldable pub roomRows : Size → (words bytes : ℕ) → List Row

@@ -2,18 +2,20 @@
 -- first record is read.
 use mathlib.Core.Bool.{cond}
 use mathlib.Core.List.{List, [], _∷_, map, headD}
-use Prim.Native.Nat.{ℕ, _*_}
+use Prim.Native.Nat.{ℕ, _+_, _*_}
 use lib.Dec.{eqb}
 use lib.ListN.{getD}
 use Rattle.model.specs.Lists.{filterMap}
 use Rattle.model.specs.Framing.{Record, frame}
 use Rattle.model.specs.Problem.{Problem, Arc}
-use Rattle.model.specs.Items.{Size, Charge, flat, measured, Lane, Estimate, Job, Item, items, sizeIn, laneIn, estimateIn, jobIn}
+use Rattle.model.specs.Items.{Size, Charge, flat, measured, Lane, PlaceValue, Job, Item, items}
+use Rattle.model.specs.Items.{sizeIn, laneIn, estimateIn, jobIn, waitIn}
 
 pub record Stated : Type 0 where
   pub size : Size
   pub lanes : List Lane
-  pub estimates : List Estimate
+  pub estimates : List PlaceValue
+  pub waits : List PlaceValue
   -- the table of factors, one for each class of lane
   pub factors : List ℕ
   -- what b is multiplied by when a round closes
@@ -38,6 +40,7 @@ statedBy is =
       size = headD (filterMap sizeIn is) noSize;
       lanes = filterMap laneIn is;
       estimates = filterMap estimateIn is;
+      waits = filterMap waitIn is;
       factors = fixedFactors;
       growth = 2;
       job = headD (filterMap jobIn is) noJob;
@@ -50,8 +53,8 @@ stated rs = statedBy (items rs)
 abbrev pub statedIn : List ℕ → Stated
 statedIn input = stated (frame input .records)
 
--- the value of v's estimate, or the default where it has none
-unfoldable pub lookup : ℕ → List Estimate → ℕ → ℕ
+-- the value that is given for v, or the default where none is
+unfoldable pub lookup : ℕ → List PlaceValue → ℕ → ℕ
 lookup default [] v = default
 lookup default (e ∷ es) v = cond (eqb (e .place) v) (e .value) (lookup default es v)
 
@@ -60,15 +63,25 @@ unfoldable pub costUnder : List ℕ → Charge → ℕ
 costUnder factors (flat cost) = cost
 costUnder factors (measured length class) = length * getD factors class 0
 
-unfoldable pub arcUnder : List ℕ → Lane → Arc
-arcUnder factors l = record { from = l .from; to = l .to; cost = costUnder factors (l .charge) }
+-- what a lane costs by itself
+unfoldable pub laneCost : Stated → Lane → ℕ
+laneCost s l = costUnder (s .factors) (l .charge)
+
+-- Document 02, paper 5: "A place without one waits 0."
+unfoldable pub waitAt : Stated → ℕ → ℕ
+waitAt s v = lookup 0 (s .waits) v
+
+-- The arc that a lane becomes. A wait is "charged each time a cart leaves" its place "by any arc", so that an arc has the wait of the place
+-- that it leaves in its cost.
+unfoldable pub arcOf : Stated → Lane → Arc
+arcOf s l = record { from = l .from; to = l .to; cost = laneCost s l + waitAt s (l .from) }
 
 -- "A place without an estimate has 0."
 unfoldable pub problemOf : Stated → Problem
 problemOf s =
     record {
       places = s .size .places;
-      arcs = map (arcUnder (s .factors)) (s .lanes);
+      arcs = map (arcOf s) (s .lanes);
       estimate = λ v. lookup 0 (s .estimates) v;
       start = s .job .start;
       goals = s .job .goals;

@@ -13,12 +13,11 @@ use Rattle.map.specs.declared.Site.{Site}
 use Rattle.layout.specs.Regions.{arcsAt}
 use Rattle.layout.specs.Map.{problemAt}
 use Rattle.load.specs.Loaded.{Loaded}
-use Rattle.model.specs.Bytes.{Bytes}
 use Rattle.model.specs.Framing.{frame}
 use Rattle.model.specs.Limits.{maxPlaces, maxArcs}
 use Rattle.model.specs.Problem.{Valid}
 use Rattle.model.specs.Stated.{stated, statedIn, problemOf}
-use Rattle.model.specs.Refusals.{wrongSize, shortWork, shortSheet, formRows, sizeRows, mapRows, jobRows, inputRows, roomRows, rows}
+use Rattle.model.specs.Refusals.{wrongSize, shortWork, shortSheet, formRows, sizeRows, mapRows, costRows, jobRows, inputRows, roomRows, rows}
 use Rattle.model.specs.Refusals.{holdsAt, refusal}
 use Rattle.model.specs.Endings.{Ending, budgeted}
 use Rattle.model.specs.Answer as model
@@ -63,21 +62,21 @@ concluded {s} {v} {work₀} w clear is =
 -- what its job states, its areas have room for
 module _ {input work₀ sheet₀ : List ℕ} {j : Job} (s : HasRoom input j work₀ sheet₀) where
   pub enough-words : wordsOf (j .site) ≤ length work₀
-  unfolding rows inputRows formRows sizeRows mapRows jobRows roomRows holdsAt refusal shortWork
+  unfolding rows inputRows formRows sizeRows mapRows costRows jobRows roomRows holdsAt refusal shortWork
   enough-words =
       let f = frame input in
       let no = row-fails (rows f (length work₀) (length sheet₀)) (rows-numbered f (length work₀) (length sheet₀)) (s .accepted) in
       rw (s .states .places, s .states .arcs) (ltb-false _ _ (no 14))
 
   enough-bytes : bytesOf (j .site) ≤ length sheet₀
-  unfolding rows inputRows formRows sizeRows mapRows jobRows roomRows holdsAt refusal shortSheet
+  unfolding rows inputRows formRows sizeRows mapRows costRows jobRows roomRows holdsAt refusal shortSheet
   enough-bytes =
       let f = frame input in
       let no = row-fails (rows f (length work₀) (length sheet₀)) (rows-numbered f (length work₀) (length sheet₀)) (s .accepted) in
       rw (s .states .places) (ltb-false _ _ (no 15))
 
   few-arcs : j .site .arcs ≤ maxArcs
-  unfolding rows inputRows formRows sizeRows mapRows jobRows roomRows holdsAt refusal wrongSize
+  unfolding rows inputRows formRows sizeRows mapRows costRows jobRows roomRows holdsAt refusal wrongSize
   few-arcs =
       let f = frame input in
       let no = row-fails (rows f (length work₀) (length sheet₀)) (rows-numbered f (length work₀) (length sheet₀)) (s .accepted) in
@@ -99,7 +98,6 @@ searched-writable {s} {allowance} {loaded = loaded} (verdict.Routed v) sheet ok 
     record { leads = record { few = ok .few-places; words = words; places = r; follows = follows; few-places = few }; room = room }
 
 module _ {input work₀ sheet₀ loaded work : List ℕ} {j : Job} {v : Verdict}
-    (bytes : Bytes input)
     (s : HasRoom input j work₀ sheet₀)
     (l : Loaded input (j .site) work₀ loaded)
     (found : Searched (j .site) (j .allowance) loaded work v) where
@@ -118,7 +116,7 @@ module _ {input work₀ sheet₀ loaded work : List ℕ} {j : Job} {v : Verdict}
   loaded-ending : budgeted (problemOf (statedIn input)) (statedIn input .job .allowance)
       ≡ budgeted (problemAt (j .site) loaded) (j .allowance)
   loaded-ending =
-      let ok = accepted-valid input (length work₀) (length sheet₀) bytes (s .accepted) in
+      let ok = accepted-valid input (length work₀) (length sheet₀) (s .accepted) in
       let p = problemOf (statedIn input) in
       ap (budgeted p) (sym (s .states .allowance)) ∙ same-ending p _ ok (l .holds .valid) (l .same) (j .allowance)
 

@@ -3,11 +3,11 @@ use mathlib.Core.Path.{_≡_, refl}
 use mathlib.Core.List.{[], _∷_, _++_, flatMap}
 use lib.ListN.{replicate}
 use Rattle.model.specs.Lists.{below}
-use Rattle.model.specs.Jobs.{putHead, putArc, putEstimate, putJob, putCharged, putLane}
+use Rattle.model.specs.Jobs.{putHead, putArc, putEstimate, putWait, putJob, putCharged, putLane}
 use Rattle.model.proofs.Compute.{compute}
 use Rattle.sort.specs.Sorting.{sortBy, insert}
 use Rattle.map_writer.specs.Order.{kindFields, orderFields, noGreater, noLater}
-use Rattle.map_writer.specs.Canonical.{estimatesByPlace, canonical, putStated, write}
+use Rattle.map_writer.specs.Canonical.{byPlace, nonzeroByPlace, canonical, putStated, write}
 use Rattle.map_writer.specs.Call.{shortOutput, outputRows, writeRows, writeRefusal, writtenWith, writeIf, writeMap}
 use Rattle.text.specs.Text.{decimalUpTo, decimal, parted, line, tooLong}
 use Rattle.write_map.specs.Printed.{streams, streamsOf, answered, printed}
@@ -18,11 +18,11 @@ unfolding compute shortOutput outputRows writeRows writeRefusal writtenWith writ
     streamsOf answered printed
 nothing = refl
 
--- two lanes out of order and an estimate of 0: in order, and without it
-two-lanes : printed (putHead 2 2 ++ putEstimate 1 0 ++ putArc 1 0 1 ++ putArc 0 1 256 ++ putJob 1 944 (0 ∷ []))
-    ≡ streams (putHead 2 2 ++ putArc 0 1 256 ++ putArc 1 0 1 ++ putJob 1 944 (0 ∷ [])) []
+-- two lanes out of order, an estimate and a wait of 0, and a wait: in order, and without those of 0
+two-lanes : printed (putHead 2 2 ++ putWait 1 7 ++ putEstimate 1 0 ++ putArc 1 0 1 ++ putArc 0 1 256 ++ putWait 0 0 ++ putJob 1 944 (0 ∷ []))
+    ≡ streams (putHead 2 2 ++ putArc 0 1 256 ++ putArc 1 0 1 ++ putWait 1 7 ++ putJob 1 944 (0 ∷ [])) []
 unfolding
-    compute flatMap below insert sortBy kindFields orderFields noGreater noLater estimatesByPlace canonical putCharged putLane putStated write
+    compute flatMap below insert sortBy kindFields orderFields noGreater noLater byPlace nonzeroByPlace canonical putCharged putLane putStated write
     shortOutput outputRows writeRows writeRefusal writtenWith writeIf writeMap decimalUpTo decimal parted line streamsOf answered printed
 two-lanes = refl
 

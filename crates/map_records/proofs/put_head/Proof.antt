@@ -1,6 +1,8 @@
 -- The fields stand one after another.
 use borrow.Author.Needs.{needs}
-use Rattle.map_records.proofs.PutRecords.{head-fields}
+use Rattle.model.specs.Bytes.{put16}
+use Rattle.model.specs.Jobs.{putHead}
+use Rattle.map_records.proofs.PutRecords.{pair-fields}
 use Rattle.map_records.proofs.put_head.Statement.{statement}
 use Rattle.map_records.proofs.put_head.Tie as tie
 
@@ -26,10 +28,11 @@ same-length : tie.Need-same-length
 same-length c = search needs
 
 returns : tie.Need-returns
+unfolding putHead put16
 returns c =
     let at-arcs = c .before .before in
     let at-places = at-arcs .before .before .before .before in
-    head-fields _ _ _ (at-places .before .before .before .before .put-header .ensures) (at-places .put16 .ensures) (at-arcs .put162 .ensures)
+    pair-fields 0 _ _ _ _ (at-places .before .before .before .before .put-header .ensures) (at-places .put16 .ensures) (at-arcs .put162 .ensures)
 
 pub put-head-spec : {M : Type 1} → statement M
 put-head-spec =

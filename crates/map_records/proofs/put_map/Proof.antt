@@ -1,12 +1,14 @@
--- Head, lanes, estimates and job, each where the one before it ends: what is left has room.
+-- Head, lanes, estimates, waits and job, each where the one before it ends: what is left has room.
 use mathlib.Core.List.{List}
 use Prim.Native.Nat.{ℕ}
+use native.Mathlib.Omega.{arith}
 use borrow.Author.Needs.{needs}
+use Rattle.model.specs.Items.{estimateKind, waitKind}
 use Rattle.map.specs.declared.Job.{Job}
 use Rattle.area.specs.Part.{part}
-use Rattle.map_records.specs.Puts.{putJobOf, mapText}
-use Rattle.map_records.proofs.PutLoops.{Putting, next-fits, next-put, afterHead, afterLanes}
-use Rattle.map_records.proofs.PutLoops.{lanes-next, estimates-next, head-fits, head-put, few-estimates}
+use Rattle.map_records.specs.Puts.{putLanes, putByPlace, putJobOf, mapText}
+use Rattle.map_records.proofs.PutLoops.{Putting, next-fits, next-put, part-next, afterHead, afterLanes, afterEstimates}
+use Rattle.map_records.proofs.PutLoops.{head-fits, head-put, few-words}
 use Rattle.map_records.proofs.put_map.Statement.{statement}
 use Rattle.map_records.proofs.put_map.Tie as tie
 
@@ -17,8 +19,14 @@ entry c = c .before .before .before .before .before .before
 abbrev headed : tie.After-put-lanes → tie.After-put-head
 headed c = c .before .before .before .before .before .before .before
 
-abbrev laned : tie.After-put-estimates → tie.After-put-lanes
-laned c = c .before .before .before .before .before .before .before
+abbrev laned : tie.After-ends-at → tie.After-put-lanes
+laned c = c .before .before .before .before .before .before
+
+abbrev regions : tie.After-put-by-place → tie.After-ends-at
+regions c = c .before .before .before
+
+abbrev estimated : tie.After-put-by-place2 → tie.After-put-by-place
+estimated c = c .before .before .before .before .before
 
 -- of the map this is left to be put
 abbrev Left : (List ℕ → Job → List ℕ → List ℕ) → tie.Start → List ℕ → ℕ → Type 0
@@ -30,16 +38,28 @@ after-head : (c : tie.After-put-head) → Left afterHead (entry c) (c .put-head 
 after-head c = head-put (entry c .pre) (c .put-head .ensures)
 
 after-lanes : (c : tie.After-put-lanes) → Left afterLanes (entry (headed c)) (c .put-lanes .last .0) (c .put-lanes .result)
-unfolding part
-after-lanes c = next-put (lanes-next _ _ _ (c .before .before .before .before .arcs-at .ensures)) (after-head (headed c)) (c .put-lanes .ensures)
+unfolding part afterHead
+after-lanes c =
+    let start = c .before .before .before .before .arcs-at .ensures in
+    next-put (part-next putLanes _ _ start (omega arith)) (after-head (headed c)) (c .put-lanes .ensures)
 
-after-estimates : (c : tie.After-put-estimates)
-    → Left (λ input j w. putJobOf input j) (entry (headed (laned c))) (c .put-estimates .last .0) (c .put-estimates .result)
-unfolding part
+after-estimates : (c : tie.After-put-by-place)
+    → Left afterEstimates (entry (headed (laned (regions c)))) (c .put-by-place .last .0) (c .put-by-place .result)
+unfolding part afterLanes
 after-estimates c =
-    let first = c .before .before .before .before .estimates-at .ensures in
-    let last = c .before .before .before .goals-at .ensures in
-    next-put (estimates-next _ _ _ first last) (after-lanes (laned c)) (c .put-estimates .ensures)
+    let r = regions c in
+    let first = r .before .before .before .estimates-at .ensures in
+    let next = part-next (putByPlace estimateKind 0) _ _ first (r .before .before .goals-at .ensures) in
+    next-put next (after-lanes (laned r)) (c .put-by-place .ensures)
+
+after-waits : (c : tie.After-put-by-place2)
+    → Left (λ input j w. putJobOf input j) (entry (headed (laned (regions (estimated c))))) (c .put-by-place2 .last .0)
+    (c .put-by-place2 .result)
+unfolding part afterEstimates
+after-waits c =
+    let r = regions (estimated c) in
+    let next = part-next (putByPlace waitKind 0) _ _ (r .before .waits-at .ensures) (r .ends-at .ensures) in
+    next-put next (after-estimates (estimated c)) (c .put-by-place2 .ensures)
 
 put-head-requires : tie.Need-put-head-requires
 put-head-requires c κs =
@@ -68,10 +88,10 @@ part-put-lanes-end : tie.Need-part-put-lanes-end
 part-put-lanes-end c = search needs
 
 put-lanes-requires : tie.Need-put-lanes-requires
-unfolding part
+unfolding part afterHead
 put-lanes-requires c κs =
-    let head = c .before .before .before .before .before .before in
-    next-fits (lanes-next _ _ _ (c .before .before .before .arcs-at .ensures)) (after-head head)
+    let start = c .before .before .before .arcs-at .ensures in
+    next-fits (part-next putLanes _ _ start (omega arith)) (after-head (c .before .before .before .before .before .before))
 
 estimates-at-requires : tie.Need-estimates-at-requires
 estimates-at-requires c κs = search needs
@@ -79,36 +99,67 @@ estimates-at-requires c κs = search needs
 goals-at-requires : tie.Need-goals-at-requires
 goals-at-requires c κs = search needs
 
-mul-put-estimates : tie.Need-mul-put-estimates
-mul-put-estimates c = search needs
+waits-at-requires : tie.Need-waits-at-requires
+waits-at-requires c κs = search needs
 
-sub-put-estimates : tie.Need-sub-put-estimates
-sub-put-estimates c = search needs
+ends-at-requires : tie.Need-ends-at-requires
+ends-at-requires c κs = search needs
 
-part-put-estimates-start : tie.Need-part-put-estimates-start
-part-put-estimates-start c = search needs
+mul-put-by-place : tie.Need-mul-put-by-place
+mul-put-by-place c = search needs
 
-part-put-estimates-end : tie.Need-part-put-estimates-end
-part-put-estimates-end c = search needs
+sub-put-by-place : tie.Need-sub-put-by-place
+sub-put-by-place c = search needs
 
-put-estimates-requires : tie.Need-put-estimates-requires
-unfolding part
-put-estimates-requires c κs =
-    let first = c .before .before .before .estimates-at .ensures in
-    let last = c .before .before .goals-at .ensures in
-    let lanes = c .before .before .before .before .before .before in
-    (few-estimates (entry (headed lanes) .pre) _ _ first last, next-fits (estimates-next _ _ _ first last) (after-lanes lanes))
+part-put-by-place-start : tie.Need-part-put-by-place-start
+part-put-by-place-start c = search needs
+
+part-put-by-place-end : tie.Need-part-put-by-place-end
+part-put-by-place-end c = search needs
+
+put-by-place-requires : tie.Need-put-by-place-requires
+unfolding part afterLanes
+put-by-place-requires c κs =
+    let r = c .before .before in
+    let first = r .before .before .before .estimates-at .ensures in
+    let last = r .before .before .goals-at .ensures in (
+      few-words (entry (headed (laned r)) .pre) first last (omega arith) (omega arith),
+      next-fits (part-next (putByPlace estimateKind 0) _ _ first last) (after-lanes (laned r)),
+    )
+
+mul-put-by-place-2 : tie.Need-mul-put-by-place-2
+mul-put-by-place-2 c = search needs
+
+sub-put-by-place-2 : tie.Need-sub-put-by-place-2
+sub-put-by-place-2 c = search needs
+
+part-put-by-place-start-2 : tie.Need-part-put-by-place-start-2
+part-put-by-place-start-2 c = search needs
+
+part-put-by-place-end-2 : tie.Need-part-put-by-place-end-2
+part-put-by-place-end-2 c = search needs
+
+put-by-place-requires-2 : tie.Need-put-by-place-requires-2
+unfolding part afterEstimates
+put-by-place-requires-2 c κs =
+    let estimates = c .before .before .before .before in
+    let r = regions estimates in
+    let first = r .before .waits-at .ensures in
+    let last = r .ends-at .ensures in (
+      few-words (entry (headed (laned r)) .pre) first last (omega arith) (omega arith),
+      next-fits (part-next (putByPlace waitKind 0) _ _ first last) (after-estimates estimates),
+    )
 
 put-job-requires : tie.Need-put-job-requires
 put-job-requires c κs =
-    let estimates = c .before .before .before in
-    (entry (headed (laned estimates)) .pre .goals, after-estimates estimates .room)
+    let waits = c .before .before .before in
+    (entry (headed (laned (regions (estimated waits)))) .pre .goals, after-waits waits .room)
 
 same-length : tie.Need-same-length
 same-length c = search needs
 
 returns : tie.Need-returns
-returns c = after-estimates (c .before .before .before .before .before .before) .whole (c .before .before .put-job .ensures)
+returns c = after-waits (c .before .before .before .before .before .before) .whole (c .before .before .put-job .ensures)
 
 pub put-map-spec : {M : Type 1} → statement M
 put-map-spec =
@@ -125,11 +176,18 @@ put-map-spec =
     put-lanes-requires
     estimates-at-requires
     goals-at-requires
-    mul-put-estimates
-    sub-put-estimates
-    part-put-estimates-start
-    part-put-estimates-end
-    put-estimates-requires
+    waits-at-requires
+    ends-at-requires
+    mul-put-by-place
+    sub-put-by-place
+    part-put-by-place-start
+    part-put-by-place-end
+    put-by-place-requires
+    mul-put-by-place-2
+    sub-put-by-place-2
+    part-put-by-place-start-2
+    part-put-by-place-end-2
+    put-by-place-requires-2
     put-job-requires
     same-length
     returns)

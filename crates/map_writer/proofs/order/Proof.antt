@@ -10,7 +10,7 @@ use Rattle.map_writer.proofs.order.Tie as tie
 
 -- what acceptance says
 facts : (c : tie.After-shared-slice-known) → let a = c .before .args in Known (a .input .now) (a .job) (length (a .work .now))
-facts c = known _ _ _ (λ i. c .shared-slice-known .given i .fits) (c .before .pre)
+facts c = known _ _ _ (c .before .pre)
 
 -- from after each pass back to the one before it
 abbrev start : tie.After-prepare → tie.After-shared-slice-known

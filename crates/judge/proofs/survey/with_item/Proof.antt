@@ -38,6 +38,12 @@ with-estimate-requires c κs = search needs
 enum-known-item-5 : tie.Need-enum-known-item-5
 enum-known-item-5 c = search needs
 
+with-wait-requires : tie.Need-with-wait-requires
+with-wait-requires c κs = search needs
+
+enum-known-item-6 : tie.Need-enum-known-item-6
+enum-known-item-6 c = search needs
+
 with-job-requires : tie.Need-with-job-requires
 with-job-requires c κs = search needs
 
@@ -74,15 +80,19 @@ returns-4 c = rw (c .before .before .before .item4 .given .1) (c .with-estimate 
 
 returns-5 : tie.Need-returns-5
 unfolding noted marksBy
-returns-5 c = rw (c .before .before .item5 .given .1) (record { survey = c .with-job .ensures; mark = refl })
+returns-5 c = rw (c .before .before .item5 .given .1) (record { survey = c .with-wait .ensures; mark = refl })
 
 returns-6 : tie.Need-returns-6
 unfolding noted marksBy
-returns-6 c = rw (c .before .enum-told .given .1) (record { survey = c .after .ensures; mark = refl })
+returns-6 c = rw (c .before .before .item6 .given .1) (record { survey = c .with-job .ensures; mark = refl })
 
 returns-7 : tie.Need-returns-7
 unfolding noted marksBy
-returns-7 c = rw (c .before .enum-told2 .given .1) (record { survey = c .after2 .ensures; mark = refl })
+returns-7 c = rw (c .before .enum-told .given .1) (record { survey = c .after .ensures; mark = refl })
+
+returns-8 : tie.Need-returns-8
+unfolding noted marksBy
+returns-8 c = rw (c .before .enum-told2 .given .1) (record { survey = c .after2 .ensures; mark = refl })
 
 pub with-item-spec : {M : Type 1} → statement M
 with-item-spec =
@@ -99,6 +109,8 @@ with-item-spec =
     enum-known-item-4
     with-estimate-requires
     enum-known-item-5
+    with-wait-requires
+    enum-known-item-6
     with-job-requires
     enum-told
     after-requires
@@ -110,4 +122,5 @@ with-item-spec =
     returns-4
     returns-5
     returns-6
-    returns-7)
+    returns-7
+    returns-8)

@@ -1,12 +1,12 @@
 -- `verdict::judge` meets its contract: one law for each answer. Assumes nothing.
-use mathlib.Core.Path.{refl}
 use borrow.Author.Needs.{needs}
-use Rattle.judge.proofs.JudgeMap.{zeros-clear, form-refused, formed}
+use Rattle.judge.proofs.MarkLaws.{zeros-clear}
+use Rattle.judge.proofs.JudgeMap.{form-refused, formed}
 use Rattle.judge.proofs.verdict.judge.Statement.{statement}
 use Rattle.judge.proofs.verdict.judge.Tie as tie
 
 of-requires : tie.Need-of-requires
-of-requires c κs = record { room = refl; zero = zeros-clear 4096 }
+of-requires c κs = zeros-clear
 
 returns : tie.Need-returns
 returns c = form-refused _ _ _ (c .before .before .of .ensures) (c .if1 .taken)

@@ -1,6 +1,6 @@
 -- `verdict::judge_map` meets its contract: one law for each answer. Assumes nothing.
 use borrow.Author.Needs.{needs}
-use Rattle.judge.proofs.JudgeMap.{range-refused, arcs-refused, map-refused, job-refused, one-job}
+use Rattle.judge.proofs.JudgeMap.{range-refused, arcs-refused, map-refused, right-map}
 use Rattle.map.proofs.Sizes.{WithinLimits, within-limits, no-map}
 use Rattle.judge.proofs.verdict.judge_map.Statement.{statement}
 use Rattle.judge.proofs.verdict.judge_map.Tie as tie
@@ -33,20 +33,14 @@ returns-3 c =
     let d = e .before .before .before .before in
     map-refused _ _ _ (d .before .before .before .before .pre) _ (within d) (e .if1 .left) (c .if2 .taken)
 
+judge-costs-requires : tie.Need-judge-costs-requires
+judge-costs-requires c κs =
+    let e = c .before .before in
+    let d = e .before .before .before .before in
+    right-map _ _ _ (d .before .before .before .before .pre) _ (within d) (e .if1 .left) (c .if2 .left)
+
 returns-4 : tie.Need-returns-4
-returns-4 c =
-    let e = c .before .before .before .before .before in
-    let d = e .before .before .before .before in
-    job-refused _ _ _ (d .before .before .before .before .pre) _ (within d) (e .if1 .left) (c .before .before .before .if2 .left) (c .if3 .taken)
-
-judge-job-requires : tie.Need-judge-job-requires
-judge-job-requires c κs =
-    let e = c .before .before .before .before .before in
-    let d = e .before .before .before .before in
-    one-job _ _ _ (d .before .before .before .before .pre) _ (within d) (e .if1 .left) (c .before .before .before .if2 .left) (c .if3 .left)
-
-returns-5 : tie.Need-returns-5
-returns-5 c = search needs
+returns-4 c = search needs
 
 pub judge-map-spec : {M : Type 1} → statement M
 judge-map-spec =
@@ -58,6 +52,5 @@ judge-map-spec =
     returns
     returns-2
     returns-3
-    returns-4
-    judge-job-requires
-    returns-5)
+    judge-costs-requires
+    returns-4)

@@ -1,4 +1,4 @@
--- `record::end_of` meets its contract: an arc and an estimate end where they say. Assumes nothing.
+-- `record::end_of` meets its contract: an arc, an estimate and a wait end where they say. Assumes nothing.
 use native.Mathlib.Omega.{arith}
 use Rattle.map.specs.Items.{endBy}
 use borrow.Author.Needs.{needs}
@@ -26,6 +26,13 @@ add-result-3 : tie.Need-add-result-3
 unfolding endBy
 add-result-3 c = omega (arith, rw (c .before .enum-told3 .given .1) at (c .before .before .before .pre))
 
+enum-told-4 : tie.Need-enum-told-4
+enum-told-4 c = search needs
+
+add-result-4 : tie.Need-add-result-4
+unfolding endBy
+add-result-4 c = omega (arith, rw (c .before .enum-told4 .given .1) at (c .before .before .before .pre))
+
 returns : tie.Need-returns
 unfolding endBy
 returns c = rw (c .before .enum-told .given .1) at (c .before .before .before .pre)
@@ -39,7 +46,11 @@ unfolding endBy
 returns-3 c = rw (c .before .enum-told3 .given .1) at (c .before .before .before .pre)
 
 returns-4 : tie.Need-returns-4
-returns-4 c = search needs
+unfolding endBy
+returns-4 c = rw (c .before .enum-told4 .given .1) at (c .before .before .before .pre)
+
+returns-5 : tie.Need-returns-5
+returns-5 c = search needs
 
 pub end-of-spec : {M : Type 1} → statement M
 end-of-spec =
@@ -51,7 +62,10 @@ end-of-spec =
     add-result-2
     enum-told-3
     add-result-3
+    enum-told-4
+    add-result-4
     returns
     returns-2
     returns-3
-    returns-4)
+    returns-4
+    returns-5)

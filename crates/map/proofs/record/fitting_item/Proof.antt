@@ -1,14 +1,16 @@
 -- `record::fitting_item` meets its contract, kind by kind: the kind says how long the body is. Assumes nothing.
+use mathlib.Core.Path.{sym, _∙_}
+use mathlib.Core.Bool.{true≢false}
 use borrow.Author.Needs.{needs}
 use Rattle.map.specs.Items.{FitsIn}
-use Rattle.map.proofs.Items.{body-within, lane-says, measured-says, estimate-says, head-says, job-says, other-says}
-use Rattle.map.proofs.Items.{lane-fits, measured-fits, estimate-fits, head-fits}
+use Rattle.map.proofs.Items.{body-within, lane-says, measured-says, estimate-says, wait-says, head-says, job-says, other-says}
+use Rattle.map.proofs.Items.{lane-fits, measured-fits, estimate-fits, wait-fits, head-fits}
 use Rattle.map.proofs.record.fitting_item.Statement.{statement}
 use Rattle.map.proofs.record.fitting_item.Tie as tie
 
 -- what was asked, and the kinds that it is not, one after another
-can : (c : tie.Else1) → let a = c .before .before .before .args in FitsIn (a .input .now) (a .r)
-can c = c .before .before .before .pre
+can : (c : tie.Else1) → let a = c .before .before .before .before .args in FitsIn (a .input .now) (a .r)
+can c = c .before .before .before .before .pre
 
 abbrev no-arc : tie.Else2 → tie.Else1
 no-arc c = c .before .before
@@ -19,12 +21,18 @@ no-measured c = c .before .before
 abbrev no-estimate : tie.Else4 → tie.Else3
 no-estimate c = c .before .before
 
+abbrev no-wait : tie.Else5 → tie.Else4
+no-wait c = c .before .before
+
+sub-len : tie.Need-sub-len
+sub-len c = search needs
+
 lane-at-requires : tie.Need-lane-at-requires
-lane-at-requires c κs = let f = c .before .before .before .pre in body-within _ _ (f .lies) _ _ (lane-fits _ _ f (c .if1 .taken))
+lane-at-requires c κs = let f = c .before .before .before .before .pre in body-within _ _ (f .lies) _ _ (lane-fits _ _ f (c .if1 .taken))
 
 returns : tie.Need-returns
 returns c =
-    let f = c .before .before .before .before .pre in
+    let f = c .before .before .before .before .before .pre in
     lane-says _ _ (f .lies) (lane-fits _ _ f (c .before .if1 .taken)) _ (c .lane-at .ensures)
 
 measured-at-requires : tie.Need-measured-at-requires
@@ -43,49 +51,57 @@ returns-3 c =
     let f = can (no-arc (c .before .before .before)) in
     rw (c .estimate-at .ensures) (estimate-says _ _ (f .lies) (estimate-fits _ _ f (c .before .if3 .taken)))
 
-head-at-requires : tie.Need-head-at-requires
-head-at-requires c κs =
-    let f = can (no-arc (no-measured (c .before .before))) in
-    body-within _ _ (f .lies) _ _ (head-fits _ _ f (c .if4 .taken))
+wait-at-requires : tie.Need-wait-at-requires
+wait-at-requires c κs = body-within _ _ (can (no-arc (no-measured (c .before .before))) .lies) _ _ (c .if4 .taken)
 
 returns-4 : tie.Need-returns-4
 returns-4 c =
-    let f = can (no-arc (no-measured (c .before .before .before))) in
-    rw (c .head-at .ensures) (head-says _ _ (f .lies) (head-fits _ _ f (c .before .if4 .taken)))
+    rw (c .wait-at .ensures) (wait-says _ _ (can (no-arc (no-measured (c .before .before .before))) .lies) (c .before .if4 .taken))
 
-sub-job-at : tie.Need-sub-job-at
-sub-job-at c = search needs
+head-at-requires : tie.Need-head-at-requires
+head-at-requires c κs =
+    let f = can (no-arc (no-measured (no-estimate (c .before .before)))) in
+    body-within _ _ (f .lies) _ _ (head-fits _ _ f (c .if5 .taken))
+
+returns-5 : tie.Need-returns-5
+returns-5 c =
+    let f = can (no-arc (no-measured (no-estimate (c .before .before .before)))) in
+    rw (c .head-at .ensures) (head-says _ _ (f .lies) (head-fits _ _ f (c .before .if5 .taken)))
 
 job-at-requires : tie.Need-job-at-requires
 job-at-requires c κs = search needs
 
-returns-5 : tie.Need-returns-5
-returns-5 c =
-    let kind = c .before .before in
-    let f = can (no-arc (no-measured (no-estimate (kind .before .before)))) in
-    rw (c .job-at .ensures) (job-says _ _ (f .lies) (kind .if5 .taken))
-
 returns-6 : tie.Need-returns-6
 returns-6 c =
+    let f = can (no-arc (no-measured (no-estimate (no-wait (c .before .before .before))))) in
+    rw (c .job-at .ensures) (job-says _ _ (f .lies) (c .before .if6 .taken))
+
+returns-7 : tie.Need-returns-7
+returns-7 c =
     let head = c .before .before in
-    let estimate = no-estimate head in
+    let wait = no-wait head in
+    let estimate = no-estimate wait in
     let measured = no-measured estimate in
     let arc = no-arc measured in
-    other-says _ _ (can arc .lies) (head .if4 .left) (arc .if1 .left) (estimate .if3 .left) (c .if5 .left) (measured .if2 .left)
+    let f = can arc in
+    other-says _ _ (f .lies) (head .if5 .left) (arc .if1 .left) (estimate .if3 .left) (c .if6 .left) (measured .if2 .left)
+    (λ k. true≢false (sym (wait-fits _ _ f k) ∙ wait .if4 .left))
 
 pub fitting-item-spec : {M : Type 1} → statement M
 fitting-item-spec =
     tie.close
     (tie.spec
+    sub-len
     lane-at-requires
     returns
     measured-at-requires
     returns-2
     estimate-at-requires
     returns-3
-    head-at-requires
+    wait-at-requires
     returns-4
-    sub-job-at
-    job-at-requires
+    head-at-requires
     returns-5
-    returns-6)
+    job-at-requires
+    returns-6
+    returns-7)

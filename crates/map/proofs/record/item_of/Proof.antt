@@ -1,7 +1,7 @@
 -- `record::item_of` meets its contract, kind by kind. Assumes nothing.
 use borrow.Author.Needs.{needs}
 use Rattle.map.specs.Items.{LiesIn}
-use Rattle.map.proofs.Items.{body-within, lane-says, measured-says, estimate-says, head-says, job-says, outside-says, none-fits}
+use Rattle.map.proofs.Items.{body-within, lane-says, measured-says, estimate-says, wait-says, head-says, job-says, outside-says, none-fits}
 use Rattle.map.proofs.record.item_of.Statement.{statement}
 use Rattle.map.proofs.record.item_of.Tie as tie
 
@@ -18,7 +18,10 @@ no-measured c = c .before .before
 abbrev no-estimate : tie.Else4 → tie.Else3
 no-estimate c = c .before .before
 
-abbrev no-head : tie.Else5 → tie.Else4
+abbrev no-wait : tie.Else5 → tie.Else4
+no-wait c = c .before .before
+
+abbrev no-head : tie.Else6 → tie.Else5
 no-head c = c .before .before
 
 sub-len : tie.Need-sub-len
@@ -42,31 +45,41 @@ estimate-at-requires c κs = body-within _ _ (lies (no-arc (c .before .before)))
 returns-3 : tie.Need-returns-3
 returns-3 c = rw (c .estimate-at .ensures) (estimate-says _ _ (lies (no-arc (c .before .before .before))) (c .before .if3 .taken))
 
-head-at-requires : tie.Need-head-at-requires
-head-at-requires c κs = body-within _ _ (lies (no-arc (no-measured (c .before .before)))) _ _ (c .if4 .taken)
+wait-at-requires : tie.Need-wait-at-requires
+wait-at-requires c κs = body-within _ _ (lies (no-arc (no-measured (c .before .before)))) _ _ (c .if4 .taken)
 
 returns-4 : tie.Need-returns-4
-returns-4 c = rw (c .head-at .ensures) (head-says _ _ (lies (no-arc (no-measured (c .before .before .before)))) (c .before .if4 .taken))
+returns-4 c = rw (c .wait-at .ensures) (wait-says _ _ (lies (no-arc (no-measured (c .before .before .before)))) (c .before .if4 .taken))
 
-job-at-requires : tie.Need-job-at-requires
-job-at-requires c κs = search needs
+head-at-requires : tie.Need-head-at-requires
+head-at-requires c κs = body-within _ _ (lies (no-arc (no-measured (no-estimate (c .before .before))))) _ _ (c .if5 .taken)
 
 returns-5 : tie.Need-returns-5
 returns-5 c =
     let known = no-arc (no-measured (no-estimate (c .before .before .before))) in
-    rw (c .job-at .ensures) (job-says _ _ (lies known) (c .before .if5 .taken))
+    rw (c .head-at .ensures) (head-says _ _ (lies known) (c .before .if5 .taken))
+
+job-at-requires : tie.Need-job-at-requires
+job-at-requires c κs = search needs
 
 returns-6 : tie.Need-returns-6
-returns-6 c = outside-says _ _ (lies (no-arc (no-measured (no-estimate (no-head (c .before .before .before)))))) (c .if6 .taken)
+returns-6 c =
+    let known = no-arc (no-measured (no-estimate (no-wait (c .before .before .before)))) in
+    rw (c .job-at .ensures) (job-says _ _ (lies known) (c .before .if6 .taken))
 
 returns-7 : tie.Need-returns-7
-returns-7 c =
+returns-7 c = outside-says _ _ (lies (no-arc (no-measured (no-estimate (no-wait (no-head (c .before .before .before))))))) (c .if7 .taken)
+
+returns-8 : tie.Need-returns-8
+returns-8 c =
     let job = c .before .before .before in
     let head = no-head job in
-    let estimate = no-estimate head in
+    let wait = no-wait head in
+    let estimate = no-estimate wait in
     let measured = no-measured estimate in
     let arc = no-arc measured in
-    none-fits _ _ (lies arc) (c .if6 .left) (job .if5 .left) (head .if4 .left) (arc .if1 .left) (estimate .if3 .left) (measured .if2 .left)
+    none-fits _ _ (lies arc) (c .if7 .left) (job .if6 .left) (head .if5 .left) (arc .if1 .left) (estimate .if3 .left) (measured .if2 .left)
+    (wait .if4 .left)
 
 pub item-of-spec : {M : Type 1} → statement M
 item-of-spec =
@@ -79,9 +92,11 @@ item-of-spec =
     returns-2
     estimate-at-requires
     returns-3
-    head-at-requires
+    wait-at-requires
     returns-4
-    job-at-requires
+    head-at-requires
     returns-5
+    job-at-requires
     returns-6
-    returns-7)
+    returns-7
+    returns-8)

@@ -1,18 +1,19 @@
--- The loop's invariant: the estimates from place v on are left to be put. The measure is the number of words that are left. Assumes nothing.
+-- The loop's invariant: the numbers from place v on are left to be put. The measure is the number of words that are left. Assumes nothing.
 use Prim.Native.Nat.{_-_, _≤_}
 use native.Mathlib.Omega.{arith}
 use lib.ListN.{length, drop}
 use borrow.Author.Needs.{needs}
-use Rattle.map_records.specs.Puts.{putEstimates}
-use Rattle.map_records.proofs.PutLoops.{Putting, all-left, next-fits, next-put, none-left, estimates-from, estimates-done}
-use Rattle.map_records.proofs.put_estimates.Statement.{statement}
-use Rattle.map_records.proofs.put_estimates.Tie as tie
+use Rattle.map_records.specs.Puts.{putByPlace}
+use Rattle.map_records.proofs.PutLoops.{Putting, all-left, next-fits, next-put, none-left, by-place-from, by-place-done}
+use Rattle.map_records.proofs.put_by_place.Statement.{statement}
+use Rattle.map_records.proofs.put_by_place.Tie as tie
 
 abbrev Inv-loop : tie.InvT-loop
-Inv-loop out₀ start words at₀ v₀ out at v = (v ≤ length words) × Putting (putEstimates 0 words) (putEstimates v (drop v words)) start out₀ out at
+Inv-loop out₀ start kind words at₀ v₀ out at v =
+    (v ≤ length words) × Putting (putByPlace kind 0 words) (putByPlace kind v (drop v words)) start out₀ out at
 
 abbrev μ-loop : tie.MeasureT-loop
-μ-loop out₀ start words at₀ v₀ out at v = length words - v
+μ-loop out₀ start kind words at₀ v₀ out at v = length words - v
 
 loop-holds : tie.Need-loop-holds Inv-loop μ-loop
 loop-holds c = (omega arith, all-left (c .before .before .pre .1))
@@ -26,7 +27,7 @@ shared-slice-read-put-nonzero c = search needs
 put-nonzero-requires : tie.Need-put-nonzero-requires Inv-loop μ-loop
 put-nonzero-requires c κs =
     let l = c .before .before .before .loop in
-    (omega (arith, c .before .before .before .before .before .before .pre .0), next-fits (estimates-from _ (l .v) (omega arith)) (l .inv .1))
+    (omega (arith, c .before .before .before .before .before .before .pre .0), next-fits (by-place-from _ _ (l .v) (omega arith)) (l .inv .1))
 
 add-v : tie.Need-add-v Inv-loop μ-loop
 add-v c = search needs
@@ -37,7 +38,7 @@ loop-less c = search needs
 loop-again : tie.Need-loop-again Inv-loop μ-loop
 loop-again c =
     let l = c .before .before .before .before .before .before .loop in
-    (omega arith, next-put (estimates-from _ (l .v) (omega arith)) (l .inv .1) (c .before .before .put-nonzero .ensures))
+    (omega arith, next-put (by-place-from _ _ (l .v) (omega arith)) (l .inv .1) (c .before .before .put-nonzero .ensures))
 
 same-length : tie.Need-same-length Inv-loop μ-loop
 same-length c = search needs
@@ -45,10 +46,10 @@ same-length c = search needs
 returns : tie.Need-returns Inv-loop μ-loop
 returns c =
     let l = c .before .loop in
-    none-left (estimates-done _ (l .v) (omega arith)) (l .inv .1)
+    none-left (by-place-done _ _ (l .v) (omega arith)) (l .inv .1)
 
-pub put-estimates-spec : {M : Type 1} → statement M
-put-estimates-spec =
+pub put-by-place-spec : {M : Type 1} → statement M
+put-by-place-spec =
     tie.close
     (tie.spec
     Inv-loop
