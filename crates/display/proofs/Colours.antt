@@ -1,7 +1,7 @@
 -- The lamp of each range of numbers, and what is shown of a reading. Assumes nothing.
 use mathlib.Core.Path.{_≡_}
 use mathlib.Core.Logic.{_⊎_, inl, inr}
-use mathlib.Core.Bool.{true}
+use mathlib.Core.Bool.{true, cond}
 use mathlib.Core.List.{List}
 use Prim.Native.Nat.{ℕ, _≤_, _<_}
 use native.Mathlib.Decide.{decLt}
@@ -11,7 +11,7 @@ use borrow.Author.Tests.{le-leb, lt-leb, ne-eqb}
 use Rattle.sheet_reader.specs.Sheets.{Reading}
 use Rattle.display.specs.declared.lamps.Lamp.{Lamp}
 use Rattle.display.specs.declared.lamps.Lamp.the-variants.{Red, Amber, Dark}
-use Rattle.display.specs.Shown.{lampOf, accepted, shown}
+use Rattle.display.specs.Shown.{within, lampOf, accepted, shown}
 
 module _ (n : ℕ) where
   pub red-low : 1 ≤ n → n ≤ 13 → Red ≡ lampOf n
@@ -22,9 +22,10 @@ module _ (n : ℕ) where
   unfolding lampOf
   amber l m = rw (ne-eqb n 0 (λ e. omega arith), lt-leb n 13 (omega arith), le-leb 1 n (omega arith), le-leb 14 n l, le-leb n 15 m)
 
-  red-sheet : 18 ≤ n → n ≤ 19 → Red ≡ lampOf n
+  -- from 18 on the last three cases decide
+  above-17 : 18 ≤ n → lampOf n ≡ cond (within 18 19 n) Red (cond (within 20 21 n) Red Dark)
   unfolding lampOf
-  red-sheet l m =
+  above-17 l =
       rw (
         ne-eqb n 0 (λ e. omega arith),
         le-leb 1 n (omega arith),
@@ -33,50 +34,18 @@ module _ (n : ℕ) where
         lt-leb n 15 (omega arith),
         ne-eqb n 16 (λ e. omega arith),
         ne-eqb n 17 (λ e. omega arith),
-        le-leb 18 n l,
-        le-leb n 19 m,
-      )
-
-  red-later : 20 ≤ n → n ≤ 21 → Red ≡ lampOf n
-  unfolding lampOf
-  red-later l m =
-      rw (
-        ne-eqb n 0 (λ e. omega arith),
-        le-leb 1 n (omega arith),
-        lt-leb n 13 (omega arith),
-        le-leb 14 n (omega arith),
-        lt-leb n 15 (omega arith),
-        ne-eqb n 16 (λ e. omega arith),
-        ne-eqb n 17 (λ e. omega arith),
-        le-leb 18 n (omega arith),
-        lt-leb n 19 (omega arith),
-        le-leb 20 n l,
-        le-leb n 21 m,
       )
 
   pub red-high : 18 ≤ n → n ≤ 21 → Red ≡ lampOf n
-  red-high l m = go (decLt n 20)
+  red-high l m = rw (above-17 l) (go (decLt n 20))
     where
-      go : Dec (n < 20) → Red ≡ lampOf n
-      go (yes h) = red-sheet l (omega arith)
-      go (no h) = red-later (omega arith) m
+      go : Dec (n < 20) → Red ≡ cond (within 18 19 n) Red (cond (within 20 21 n) Red Dark)
+      go (yes h) = rw (le-leb 18 n l, le-leb n 19 (omega arith))
+      go (no h) = rw (le-leb 18 n l, lt-leb n 19 (omega arith), le-leb 20 n (omega arith), le-leb n 21 m)
 
   pub dark : 22 ≤ n → Dark ≡ lampOf n
-  unfolding lampOf
   dark l =
-      rw (
-        ne-eqb n 0 (λ e. omega arith),
-        le-leb 1 n (omega arith),
-        lt-leb n 13 (omega arith),
-        le-leb 14 n (omega arith),
-        lt-leb n 15 (omega arith),
-        ne-eqb n 16 (λ e. omega arith),
-        ne-eqb n 17 (λ e. omega arith),
-        le-leb 18 n (omega arith),
-        lt-leb n 19 (omega arith),
-        le-leb 20 n (omega arith),
-        lt-leb n 21 (omega arith),
-      )
+      rw (above-17 (omega arith), le-leb 18 n (omega arith), lt-leb n 19 (omega arith), le-leb 20 n (omega arith), lt-leb n 21 (omega arith))
 
 module _ (r : Reading) (light : Lamp) (is : light ≡ lampOf (r .number)) where
   pub shown-accepted : (r .number ≡ 0) ⊎ (r .number ≡ 17)
