@@ -4,10 +4,10 @@
  * at once, each with areas of its own; what is only read may be shared.
  *
  * A slice is passed as a pointer and a length, counted in elements. What is promised rests on four things that nobody checks:
- * no pointer is null, also where the length is 0; words are aligned as uint32_t is; the areas that a call may write overlap
- * neither each other nor what it reads; and there is stack enough: 64 KiB for r3_sheet and r3_write_map, of which judging a map takes 20
- * for notes of its estimates and waits, and for r3_route, which besides puts a route down by a recursion with one call for each of its
- * places, 320 KiB. */
+ * no pointer is null, also where the length is 0; words, records and figures are aligned as their types are; the areas that a call may
+ * write overlap neither each other nor what it reads; and there is stack enough: 64 KiB for r3_sheet and r3_write_map, of which judging a map
+ * takes 20 for notes of its estimates and waits; for r3_route, which besides puts a route down by a recursion with one call for each of its
+ * places, 320 KiB; and for r3_report, which routes and has 112 KiB of its own for a map with one job and for the sums by goal, 448 KiB. */
 #ifndef R3_H
 #define R3_H
 
@@ -49,6 +49,26 @@ uint32_t r3_route(const uint8_t *input, size_t length, uint32_t *work, size_t wo
  * After 0 the first R3_WORDS_OF(N, M) words of work are 0. No other word or byte changes. */
 uint32_t r3_write_map(const uint8_t *input, size_t length, uint32_t *work, size_t words, uint8_t *output, size_t bytes,
                       uint32_t *answer, size_t room);
+
+/* libday.a: the report of a day. The input is a map, that is all records before the first job, and then up to 1,000 records, each of which counts
+ * as one job: a job is routed as if it were alone with the map, by r3_route with the work and sheet areas as they are lent; any other record is
+ * refused with 10, and a broken tail with 1. The input is read; work, sheet, tally and figures are lent to the call. How the report ended comes
+ * back:
+ * 0: record g of the tally, for g from 0 to 4,095, holds g, how many routes end there, and what they cost; later records have not changed. Work and
+ *    sheet areas are as the last job left them
+ * 15: the tally has fewer than 4,096 records. It has not changed, nor has the work area or the sheet area
+ * R3_TOO_LONG: the input has more than 65,536 bytes, or more than 1,000 records after the map, a broken tail being one. No area has changed
+ * As many figures as there is room for are stored: the total cost of all routes, the largest, the total of the expansions of routes and of jobs with no
+ * route, and then how many jobs came to number 0, 1 and so on up to 21. All are 0 where no report was made. */
+#define R3_TOO_LONG 255
+#define R3_RECORDS 4096
+#define R3_FIGURES 25
+struct r3_tally {
+    uint32_t goal, routes;
+    uint64_t cost;
+};
+uint32_t r3_report(const uint8_t *input, size_t length, uint32_t *work, size_t words, uint8_t *sheet, size_t bytes,
+                   struct r3_tally *tally, size_t records, uint64_t *figures, size_t room);
 
 #ifdef __cplusplus
 }

@@ -1,8 +1,9 @@
 #!/usr/bin/env python3
-"""Tests the examples and tests/listing.py, and runs programs `route` and `write_map` on the examples if they are given: examples.py [ROUTE WRITE_MAP]
+"""Tests the examples and tests/listing.py, and runs programs `route`, `write_map` and `report` on the examples if they are given:
+examples.py [ROUTE WRITE_MAP REPORT]
 
 An example is examples/NAME, an input, and examples/NAME.txt, its listing with a comment that says what `route` prints, and for some of them what
-`write_map` makes of it."""
+`write_map` makes of it; or, of a day, what `report` prints."""
 import pathlib
 import random
 import re
@@ -12,13 +13,14 @@ import sys
 from inputs import damaged, some_map
 from listing import listing, records, statements
 from program import SHEET, WORK, by_hand, printed
-from reference import Problem, refusal
+from report_program import printed as day_printed
+from reference import Day, Problem, record, refusal
 from streams import run
 from write_program import printed as written
 
 TESTS = pathlib.Path(__file__).parent
 EXAMPLES = TESTS.parent / 'examples'
-CLAIM = re.compile(r'Program route prints.*\n((?:#     [0-9 ]+\n)+)')
+CLAIM = re.compile(r'Program (route|report) prints[^:]*:\n((?:#     [0-9 ]+\n)+)')
 WRITTEN = re.compile(r'Program write_map makes examples/(\S+) of it')
 
 # listings with the bytes that they give, in hex
@@ -81,7 +83,21 @@ def overstates(data):
     return False
 
 
-def example(path, route, write_map):
+def claimed(text, data, route, report):
+    """what is wrong with what an example says that a program prints"""
+    found = CLAIM.search(text)
+    if not found:
+        yield 'the comment does not say what a program prints'
+        return
+    claim = found[2].replace('#     ', '')
+    want, program = (printed(data), route) if found[1] == 'route' else (day_printed(data), report)
+    if claim != want:
+        yield f'the comment says {claim!r}, the second source {want!r}'
+    if program and run(program, [data]) != (claim.encode(), b''):
+        yield f'the comment says {claim!r}, the program {run(program, [data])}'
+
+
+def example(path, route, write_map, report):
     """what is wrong with an example"""
     text, data = path.read_text(), path.with_suffix('').read_bytes()
     if command('records', text.encode()) != (0, data, ''):
@@ -89,13 +105,9 @@ def example(path, route, write_map):
     code, back, _ = command('listing', data)
     if code != 0 or [words for _, words in statements(back.decode())] != [words for _, words in statements(text)]:
         yield 'the listing is not what the bytes give'
-    claim = CLAIM.search(text)
-    claim = claim and claim[1].replace('#     ', '')
-    if claim != printed(data):
-        yield f'the comment says {claim!r}, the second source {printed(data)!r}'
-    if route and run(route, [data]) != ((claim or '').encode(), b''):
-        yield f'the comment says {claim!r}, the program {run(route, [data])}'
-    if not refusal(data, WORK, SHEET) and overstates(data):
+    yield from claimed(text, data, route, report)
+    day = Day(data, WORK, SHEET)
+    if any(not refusal(one, WORK, SHEET) and overstates(one) for one in (day.map + record(*r) for r in day.later)):
         yield 'an estimate overstates'
     if name := WRITTEN.search(text):
         want = (EXAMPLES / name[1]).read_bytes(), b''
@@ -105,9 +117,9 @@ def example(path, route, write_map):
             yield f'route prints something else for {name[1]}'
 
 
-def examples(paths, route, write_map):
+def examples(paths, *programs):
     for path in paths:
-        yield from (f'{path.stem}: {fault}' for fault in example(path, route, write_map))
+        yield from (f'{path.stem}: {fault}' for fault in example(path, *programs))
     if len(list(EXAMPLES.iterdir())) != 2 * len(paths):
         yield 'a file in examples/ is no part of an example'
     if not any(WRITTEN.search(path.read_text()) for path in paths):
@@ -134,9 +146,9 @@ def inputs(rnd):
         yield from (b''.join(whole), damaged(rnd, whole), rnd.randbytes(rnd.randrange(40)))
 
 
-def main(route=None, write_map=None):
+def main(route=None, write_map=None, report=None):
     paths, samples = sorted(EXAMPLES.glob('*.txt')), list(inputs(random.Random(4)))
-    wrong = [*examples(paths, route, write_map), *round_trips(samples), *by_command()]
+    wrong = [*examples(paths, route, write_map, report), *round_trips(samples), *by_command()]
     print(*wrong, f'examples: {len(paths)} examples, {len(samples)} inputs, {len(GOOD) + len(BAD)} listings, {len(wrong)} wrong', sep='\n')
     return wrong != [] or not paths or not samples
 

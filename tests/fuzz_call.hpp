@@ -1,4 +1,4 @@
-// What the fuzzer's targets for r3_route and r3_write_map share. A fuzz input is two bytes, signed, by which the words and bytes lent differ from
+// What the fuzzer's targets for r3_route, r3_write_map and r3_report share. A fuzz input is two bytes, signed, by which the words and bytes lent differ from
 // what the call asks for, and then the call's input.
 #pragma once
 #include "compare.hpp"
@@ -31,8 +31,11 @@ class Drawn {
     template <class Call> bool same(Comparison<Call> &comparison, size_t asked) const
     {
         size_t room = length / 2 % 32 < 8 ? length / 2 % 32 : 9; // short answers too
-        return comparison.same(input, length, lent(R3_WORDS_OF(places, arcs), more_words_), lent(asked, more_bytes_), room);
+        return comparison.same(input, length, words(), bytes(asked), room);
     }
+
+    size_t words() const { return lent(R3_WORDS_OF(places, arcs), more_words_); }
+    size_t bytes(size_t asked) const { return lent(asked, more_bytes_); }
 
     const uint8_t *input;
     size_t length, places = 1, arcs = 0;

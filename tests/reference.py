@@ -1,5 +1,5 @@
-"""Document 01 and document 02's papers 1 to 3 and 5 once more, in Python and as plainly as possible: the second source that tests hold the answers
-of the router and of the map writer against."""
+"""Document 01 and document 02's papers 1 to 3, 5 and 6 once more, in Python and as plainly as possible: the second source that tests hold the answers
+of the router and of the map writer and the day's report against."""
 import heapq
 
 PLACES, ARCS, COST, ESTIMATE, GOALS = 4096, 16384, 65535, 268435455, 64
@@ -265,3 +265,40 @@ def write_map(data, words, room):
     estimates, waits = [estimate(*e) for e in nonzero(middle, 3)], [wait(*w) for w in nonzero(middle, 6)]
     out = b''.join([record(*first), *(record(*a) for a in arcs), *estimates, *waits, record(*last)])
     return (0, 0, 0, 0, 0, 0, len(out)), out
+
+
+class Day:
+    """what the jobs of a day come to: how many came to each number, the cost of each route, its goal, and the expansions"""
+
+    def __init__(self, data, words, room):
+        records, broken = frame(data)
+        first = next((i for i, (kind, _) in enumerate(records) if kind == JOB), len(records))
+        self.map, self.later = b''.join(record(*r) for r in records[:first]), records[first:]
+        self.too_long = len(data) > 65536 or len(self.later) + broken > 1000
+        self.counts, self.routes, self.expansions = {}, [], 0
+        if self.too_long:
+            return
+        for kind, body in self.later:
+            self.add(*(route(self.map + record(kind, body), words, room) if kind == JOB else ((10, *[0] * 6), b'')))
+        if broken:
+            self.add((1, *[0] * 6), b'')
+
+    def add(self, answer, sheet):
+        number, cost, _, _, expansions, _, _ = answer
+        self.counts[number] = self.counts.get(number, 0) + 1
+        if number in (0, 17):
+            self.expansions += expansions
+        if number == 0:
+            self.routes.append((u16(sheet, len(sheet) - 2), cost))
+
+    def lines(self):
+        """each number and its count; total cost, largest cost, total expansions; each goal, its routes and their cost"""
+        if self.too_long:
+            return ['too long']
+        costs = [cost for _, cost in self.routes]
+        rows = sorted(self.counts.items())
+        rows.append((sum(costs), max(costs, default=0), self.expansions))
+        for goal in sorted({goal for goal, _ in self.routes}):
+            there = [cost for g, cost in self.routes if g == goal]
+            rows.append((goal, len(there), sum(there)))
+        return [' '.join(map(str, row)) for row in rows]

@@ -1,5 +1,5 @@
 #!/usr/bin/env python3
-"""Writes what the fuzzer starts from, a file for each: seeds.py route|write|sheet DIR"""
+"""Writes what the fuzzer starts from, a file for each: seeds.py route|write|report|sheet DIR"""
 import os
 import random
 import sys

@@ -1,5 +1,6 @@
 /* Runs the exported calls in several threads at once, each on just the stack that r3.h names: the longest route that a map can have, the reading of
- * its sheet, and the writing of its map, without waits and with them. Every thread must come to the same answer, which is known. */
+ * its sheet, the writing of its map and a report of a day with two such routes, without waits and with them. Every thread must come to the same answer,
+ * which is known. */
 #define _DEFAULT_SOURCE
 #include <pthread.h>
 #include <string.h>
@@ -8,6 +9,7 @@
 #include "r3.h"
 
 enum { PLACES = 4096, COST = 65535, THREADS = 4, CALLS = 8, ROUTE_STACK = 320 << 10, SHEET_STACK = 64 << 10, WRITE_STACK = 64 << 10 };
+enum { REPORT_STACK = 448 << 10, LONGEST_DAY = 65536 };
 enum { HEAD = 8, ARC = 10, WAIT = 8, JOB = 14, INPUT = HEAD + ARC * (PLACES - 1) + WAIT * PLACES + JOB };
 
 static uint8_t input[INPUT], written[INPUT]; /* the map, and what the map writer makes of it */
@@ -16,6 +18,7 @@ static size_t length;
 struct Job {
     uint8_t sheet[R3_BYTES], output[INPUT];
     uint32_t work[R3_WORDS_OF(PLACES, PLACES - 1)];
+    struct r3_tally tally[R3_RECORDS];
     int right;
 };
 
@@ -79,6 +82,24 @@ static void *write_map(void *p)
     return NULL;
 }
 
+/* the chain with its job twice; with waits it is too long for a day, so that it is left out there */
+static void *report(void *p)
+{
+    struct Job *job = p;
+    uint64_t figures[R3_FIGURES], cost = (PLACES - 1) * (uint64_t)COST;
+    if (length + JOB > LONGEST_DAY)
+        return NULL;
+    memcpy(job->output, input, length);
+    memcpy(job->output + length, input + length - JOB, JOB);
+    for (int i = 0; i < CALLS; i++) {
+        uint32_t ended = r3_report(job->output, length + JOB, job->work, sizeof job->work / 4, job->sheet, sizeof job->sheet, job->tally, R3_RECORDS,
+                                   figures, R3_FIGURES);
+        job->right &= ended == 0 && figures[0] == 2 * cost && figures[1] == cost && figures[3] == 2;
+        job->right &= job->tally[PLACES - 1].routes == 2 && job->tally[PLACES - 1].cost == 2 * cost && job->tally[0].routes == 0;
+    }
+    return NULL;
+}
+
 /* runs a function on every job, each in a thread of its own; below its stack lies a page that cannot be touched */
 static int run_all(void *(*function)(void *), struct Job *jobs, size_t stack)
 {
@@ -108,6 +129,7 @@ static int count_right(uint32_t wait)
         jobs[i].right = 1;
     }
     int ran = run_all(route, jobs, ROUTE_STACK) && run_all(read_sheet, jobs, SHEET_STACK) && run_all(write_map, jobs, WRITE_STACK), right = 0;
+    ran = ran && run_all(report, jobs, REPORT_STACK);
     for (int i = 0; i < THREADS; i++)
         right += jobs[i].right;
     return ran ? right : 0;

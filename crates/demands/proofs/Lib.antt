@@ -1,3 +1,4 @@
 -- The demands, of the public calls as their contracts give them.
 pub mod Calls
+pub mod DayCalls
 pub mod Display

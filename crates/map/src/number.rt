@@ -42,3 +42,6 @@ pub const NO_JOB: u32 = 19;
 pub const WRONG_MEASURE: u32 = 20;
 
 pub const WRONG_WAIT: u32 = 21;
+
+// Every number is below this one.
+pub const END: usize = 22;

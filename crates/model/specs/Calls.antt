@@ -52,10 +52,10 @@ Program = Call → Result → Type 0
 abbrev pub Defined : Program
 Defined c r = r ≡ result c
 
--- the program does what a definition says, and nothing else
-pub record KeepsTo (definition : Call → Result) (P : Program) : Type 0 where
-  pub gives : (c : Call) → P c (definition c)
-  pub only : (c : Call) (r : Result) → P c r → r ≡ definition c
+-- A program does what a definition says, and nothing else: whatever its calls are given and come to.
+pub record KeepsTo {C R : Type 0} (definition : C → R) (P : C → R → Type 0) : Type 0 where
+  pub gives : (c : C) → P c (definition c)
+  pub only : (c : C) (r : R) → P c r → r ≡ definition c
 
 -- it routes
 abbrev pub Keeps : Program → Type 0

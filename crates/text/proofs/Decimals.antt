@@ -52,7 +52,17 @@ digits-at-most (suc most) k n h = go (ltb n 10) refl k h (λ k l. digits-at-most
     go false e zero h rest = absurd (omega (arith, ltb-false n 10 e))
     go false e (suc k) h rest = rw length-append (omega (arith, rest k (omega arith)))
 
--- A number of 32 bits has at most 10 digits.
-pub decimal-length : (n : ℕ) → n < 2 ^ 32 → length (decimal n) ≤ 10
+-- A number below 10 ^ (k + 1) has at most k + 1 digits.
+decimal-length : (k n : ℕ) → n < 10 ^ suc k → length (decimal n) ≤ suc k
 unfolding decimal
-decimal-length n h = digits-at-most n 9 n (omega arith)
+decimal-length k n h = digits-at-most n k n h
+
+-- so many bytes hold the digits of any number below the bound, and a blank
+abbrev pub Short : ℕ → ℕ → Type 0
+Short bound bytes = (n : ℕ) → n < bound → length (decimal n) < bytes
+
+pub short-32 : Short (2 ^ 32) 11
+short-32 n h = omega (arith, decimal-length 9 n (omega arith))
+
+pub short-64 : Short (2 ^ 64) 21
+short-64 n h = omega (arith, decimal-length 19 n (omega arith))

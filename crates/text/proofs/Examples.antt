@@ -21,6 +21,11 @@ five-digits = refl
 most-digits : decimal 4294967295 ≡ 52 ∷ 50 ∷ 57 ∷ 52 ∷ 57 ∷ 54 ∷ 55 ∷ 50 ∷ 57 ∷ 53 ∷ []
 most-digits = decimal-digits 4294967295 10 (omega arith, omega arith, λ l. omega arith)
 
+-- 18446744073709551615, the largest number of 64 bits
+most-wide-digits : decimal 18446744073709551615
+    ≡ 49 ∷ 56 ∷ 52 ∷ 52 ∷ 54 ∷ 55 ∷ 52 ∷ 52 ∷ 48 ∷ 55 ∷ 51 ∷ 55 ∷ 48 ∷ 57 ∷ 53 ∷ 53 ∷ 49 ∷ 54 ∷ 49 ∷ 53 ∷ []
+most-wide-digits = decimal-digits 18446744073709551615 20 (omega arith, omega arith, λ l. omega arith)
+
 empty-line : line [] ≡ 10 ∷ []
 unfolding parted line
 empty-line = refl

@@ -30,19 +30,19 @@ pub fn put_bytes(text: &mut [u8], at: usize, bytes: &[u8]) -> usize
     end
 }
 
-// A number in decimal: at most 10 digits.
-pub fn put_number(text: &mut [u8], at: usize, x: u32) -> usize
-    requires { ⌜ at + 10 ≤ length (now text) ⌝ }
+// A number in decimal.
+fn put_number(text: &mut [u8], at: usize, x: u64) -> usize
+    requires { ⌜ at + length (decimal x) ≤ length (now text) ⌝ }
     ensures { λ r. ⌜ Put (decimal x) at (now (text .entry)) (now (text .exit)) r ⌝ }
 {
     let mut digits = [0u8; 20];
-    let count = io::decimal(x as u64, &mut digits);
+    let count = io::decimal(x, &mut digits);
     put_bytes(text, at, &digits[..count])
 }
 
-// Number i of a line.
-fn put_in_line(text: &mut [u8], at: usize, i: usize, x: u32) -> usize
-    requires { ⌜ at + 11 ≤ length (now text) ⌝ }
+// Number i of a line: its digits and 1 byte more have room for it.
+fn put_in_line(text: &mut [u8], at: usize, i: usize, x: u64) -> usize
+    requires { ⌜ at + length (decimal x) + 1 ≤ length (now text) ⌝ }
     ensures { λ r. ⌜ Put (inLine i x) at (now (text .entry)) (now (text .exit)) r ⌝ }
 {
     if i == 0 {
@@ -55,6 +55,20 @@ fn put_in_line(text: &mut [u8], at: usize, i: usize, x: u32) -> usize
 // A line of numbers: 11 bytes a number and 1 more have room for it.
 pub fn put_line(text: &mut [u8], at: usize, numbers: &[u32]) -> usize
     requires { ⌜ at + 11 * length (now numbers) + 1 ≤ length (now text) ⌝ }
+    ensures { λ r. ⌜ Put (line (now (numbers .entry))) at (now (text .entry)) (now (text .exit)) r ⌝ }
+{
+    let mut end = at;
+    let mut i = 0;
+    while i < numbers.len() {
+        end = put_in_line(text, end, i, numbers[i] as u64);
+        i += 1;
+    }
+    put_byte(text, end, LINE_FEED)
+}
+
+// A line of numbers of 64 bits: 21 bytes a number and 1 more have room for it.
+pub fn put_wide_line(text: &mut [u8], at: usize, numbers: &[u64]) -> usize
+    requires { ⌜ at + 21 * length (now numbers) + 1 ≤ length (now text) ⌝ }
     ensures { λ r. ⌜ Put (line (now (numbers .entry))) at (now (text .entry)) (now (text .exit)) r ⌝ }
 {
     let mut end = at;

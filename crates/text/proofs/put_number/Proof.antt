@@ -4,7 +4,7 @@ use native.Mathlib.Omega.{arith}
 use lib.ListN.{length, take}
 use borrow.Author.Needs.{needs}
 use Rattle.text.specs.Text.{decimal}
-use Rattle.text.proofs.Decimals.{decimal-digits, decimal-length}
+use Rattle.text.proofs.Decimals.{decimal-digits}
 use Rattle.text.proofs.put_number.Statement.{statement}
 use Rattle.text.proofs.put_number.Tie as tie
 
@@ -23,9 +23,7 @@ slice-aggregate-put-bytes : tie.Need-slice-aggregate-put-bytes
 slice-aggregate-put-bytes c = search needs
 
 put-bytes-requires : tie.Need-put-bytes-requires
-put-bytes-requires c κs =
-    let start = c .before .before .before .before .before in
-    omega (arith, ap length (spelled (c .before .before)), decimal-length (start .args .x) (start .fits .x .fits))
+put-bytes-requires c κs = omega (arith, ap length (spelled (c .before .before)))
 
 same-length : tie.Need-same-length
 same-length c = search needs

@@ -1,0 +1,6 @@
+pub mod Again
+pub mod Lists
+pub mod Locals
+pub mod Records
+pub mod Turns
+pub mod Walk

@@ -1,0 +1,2 @@
+-- What the functions over a tally leave.
+pub mod Tallied
