@@ -24,12 +24,12 @@ use Rattle.model.proofs.Realized.{route-written}
 use Rattle.model.proofs.Records as records
 use Rattle.model.proofs.Sheets.{Possible, route-read-back}
 use Rattle.tally.specs.declared.Tally.{Tally}
-use Rattle.day.specs.declared.Status.the-variants.{Reported}
-use Rattle.day.specs.Entries.{isJob}
-use Rattle.day.specs.Figures.{Arrival, goalOf, arrivalOf}
-use Rattle.day.specs.Report.{maxInput, maxEntries}
-use Rattle.day.proofs.ByKey.{value-at}
-use Rattle.day.proofs.EntryLaws.{job-by-kind}
+use Rattle.jobs.specs.declared.Status.the-variants.{Reported}
+use Rattle.jobs.specs.Entries.{isJob}
+use Rattle.jobs.specs.Figures.{Arrival, goalOf, arrivalOf}
+use Rattle.jobs.specs.Report.{maxInput, maxEntries}
+use Rattle.jobs.proofs.ByKey.{value-at}
+use Rattle.jobs.proofs.EntryLaws.{job-by-kind}
 use Rattle.day.proofs.SameJobs.{IsMap, no-record-map, one-more-map, times, times-bytes, TimesAsMuch, same-day}
 use Rattle.day.specs.Calls.{DayCall, reported, recordFor}
 

@@ -1,13 +1,4 @@
--- Laws of a day, and the page of its promises.
-pub mod Bounded
-pub mod Tallying
-pub mod ByKey
-pub mod FigureLaws
-pub mod EntryLaws
-pub mod ResultLaws
-pub mod OneRecord
-pub mod Running
-pub mod Reckonings
+-- The page of promises, the laws under it, and computed days.
 pub mod Telling
 pub mod SameJobs
 pub mod LargestDay

@@ -18,19 +18,19 @@ use Rattle.model.specs.Limits.{maxPlaces}
 use Rattle.model.specs.Lists.{filter, below}
 use Rattle.model.specs.Sums.{sumBelow, sumOver}
 use Rattle.tally.specs.declared.Tally.{Tally}
-use Rattle.day.specs.declared.Status.{Status}
-use Rattle.day.specs.declared.Status.the-variants.{TooLong, ShortTally, Reported}
+use Rattle.jobs.specs.declared.Status.{Status}
+use Rattle.jobs.specs.declared.Status.the-variants.{TooLong, ShortTally, Reported}
 use Rattle.day.specs.Host.{statusNumber}
-use Rattle.day.specs.Entries.{alone, refused, isJob, beforeJob, fromJob, entries}
-use Rattle.day.specs.Figures.{results, hasNumber, count, arrivals, arrivalOf, totalCost, endingAt, totalExpansions}
+use Rattle.jobs.specs.Entries.{alone, refused, isJob, beforeJob, fromJob, entries}
+use Rattle.jobs.specs.Figures.{results, hasNumber, count, arrivals, arrivalOf, totalCost, endingAt, totalExpansions}
 use Rattle.day.specs.Calls.{DayCall, reported, Reporter, recordFor}
-use Rattle.day.specs.Report.{maxInput, maxEntries, numbers, tooLong, figures, without, tallyOf, tallied, DayResult, unchanged, afterJobs, report}
+use Rattle.jobs.specs.Report.{maxInput, maxEntries, numbers, tooLong, figures, without, tallyOf, tallied, DayResult, unchanged, afterJobs, report}
 use Rattle.model.proofs.Sums.{sum-same}
-use Rattle.day.proofs.Bounded.{maxRoute, maxExpansions, Bounded}
-use Rattle.day.proofs.ByKey.{values-length, value-at, value-before, others-behind}
-use Rattle.day.proofs.FigureLaws as laws
-use Rattle.day.proofs.EntryLaws.{all-sound, alone-records}
-use Rattle.day.proofs.ResultLaws.{results-bounded, results-length, each-alone}
+use Rattle.jobs.proofs.Bounded.{maxRoute, maxExpansions, Bounded}
+use Rattle.jobs.proofs.ByKey.{values-length, value-at, value-before, others-behind}
+use Rattle.jobs.proofs.FigureLaws as laws
+use Rattle.jobs.proofs.EntryLaws.{all-sound, alone-records}
+use Rattle.jobs.proofs.ResultLaws.{results-bounded, results-length, each-alone}
 use Rattle.day.proofs.LargestDay.{largest-day}
 
 -- How a call ends.

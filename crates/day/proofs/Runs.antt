@@ -13,10 +13,10 @@ use Rattle.model.specs.Framing.{putRecord}
 use Rattle.model.proofs.Compute.{compute}
 use Rattle.tally.specs.declared.Tally.{Tally}
 use Rattle.tally.specs.Tallied.{tallyWith}
-use Rattle.day.specs.Entries.{isJob, beforeJob, fromJob, bytesOf, mapIn, entryOf, entriesOf, tailOf, entries}
-use Rattle.day.specs.Figures.{resultOf, results, workAfter, sheetAfter, hasNumber, count, goalOf, arrivalOf, arrivals, totalCost, largestCost}
-use Rattle.day.specs.Figures.{endingAt, totalExpansions}
-use Rattle.day.specs.Report.{tooLong, figures, without, tallyOf, tallied, unchanged, afterJobs, report}
+use Rattle.jobs.specs.Entries.{isJob, beforeJob, fromJob, bytesOf, mapIn, entryOf, entriesOf, tailOf, entries}
+use Rattle.jobs.specs.Figures.{resultOf, results, workAfter, sheetAfter, hasNumber, count, goalOf, arrivalOf, arrivals, totalCost, largestCost}
+use Rattle.jobs.specs.Figures.{endingAt, totalExpansions}
+use Rattle.jobs.specs.Report.{tooLong, figures, without, tallyOf, tallied, unchanged, afterJobs, report}
 use Rattle.day.specs.Host.{statusNumber}
 
 -- opens all that `report` rests on

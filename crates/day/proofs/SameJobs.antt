@@ -20,13 +20,13 @@ use Rattle.model.proofs.Bytes.{append-bytes, no-bytes}
 use Rattle.model.proofs.Framing.{frame-none, frame-put, frame-more, frame-whole, by-records}
 use Rattle.model.proofs.Records as records
 use Rattle.tally.specs.declared.Tally.{Tally}
-use Rattle.day.specs.declared.Status.the-variants.{Reported}
-use Rattle.day.specs.Entries.{alone, isJob, beforeJob, fromJob, bytesOf, mapIn, entryOf, entriesOf, tailOf, entries}
-use Rattle.day.specs.Figures.{resultOf, results, hasNumber, Arrival, goalOf, arrivalOf, arrivals, totalCost, endingAt}
-use Rattle.day.specs.Report.{maxInput, maxEntries, tooLong, figures, tallyOf, tallied, DayResult, afterJobs, report}
-use Rattle.day.proofs.ByKey.{value-before}
-use Rattle.day.proofs.EntryLaws.{job-by-kind}
-use Rattle.day.proofs.ResultLaws.{areas-keep, as-if-alone}
+use Rattle.jobs.specs.declared.Status.the-variants.{Reported}
+use Rattle.jobs.specs.Entries.{alone, isJob, beforeJob, fromJob, bytesOf, mapIn, entryOf, entriesOf, tailOf, entries}
+use Rattle.jobs.specs.Figures.{resultOf, results, hasNumber, Arrival, goalOf, arrivalOf, arrivals, totalCost, endingAt}
+use Rattle.jobs.specs.Report.{maxInput, maxEntries, tooLong, figures, tallyOf, tallied, DayResult, afterJobs, report}
+use Rattle.jobs.proofs.ByKey.{value-before}
+use Rattle.jobs.proofs.EntryLaws.{job-by-kind}
+use Rattle.jobs.proofs.ResultLaws.{areas-keep, as-if-alone}
 use Rattle.day.specs.Calls.{recordFor}
 
 -- ---- A map

@@ -14,9 +14,9 @@ use borrow.Author.Tests.{ltb-true, ltb-false}
 use Rattle.model.specs.Answer.{overFront}
 use Rattle.model.proofs.Lists.{both}
 use Rattle.tally.specs.declared.Tally.{Tally}
-use Rattle.day.specs.declared.Day.{Day}
+use Rattle.jobs.specs.declared.Day.{Day}
 use Rattle.day.specs.Host.{statusNumber, figuresOf, figuresOver, Told, ReportsFor}
-use Rattle.day.specs.Report.{numbers, DayResult, Reports}
+use Rattle.jobs.specs.Report.{numbers, DayResult, Reports}
 
 -- one more element of a run is put, where i is its place by the code's sum
 one-more : (area : List ℕ) (from : ℕ) (new : List ℕ) (n : ℕ) {i : ℕ} {now : List ℕ} → i ≡ from + n → i < length area → n < length new

@@ -5,7 +5,7 @@ use lib.ListN.{getD}
 use Rattle.model.specs.Bytes.{Bytes}
 use Rattle.tally.specs.declared.Tally.{Tally}
 use Rattle.tally.specs.Tallied.{tallyWith}
-use Rattle.day.specs.Report.{DayResult, report}
+use Rattle.jobs.specs.Report.{DayResult, report}
 
 -- what a call is given: the input's bytes, and what all that is lent holds
 pub record DayCall : Type 0 where

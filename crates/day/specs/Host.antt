@@ -5,10 +5,10 @@ use Prim.Native.Nat.{ℕ}
 use lib.ListN.{length, take}
 use Rattle.model.specs.Answer.{overFront}
 use Rattle.tally.specs.declared.Tally.{Tally}
-use Rattle.day.specs.declared.Day.{Day}
-use Rattle.day.specs.declared.Status.{Status}
-use Rattle.day.specs.declared.Status.the-variants.{TooLong, ShortTally, Reported}
-use Rattle.day.specs.Report.{DayResult, report}
+use Rattle.jobs.specs.declared.Day.{Day}
+use Rattle.jobs.specs.declared.Status.{Status}
+use Rattle.jobs.specs.declared.Status.the-variants.{TooLong, ShortTally, Reported}
+use Rattle.jobs.specs.Report.{DayResult, report}
 
 -- 15 is the paper's number. It gives none to an input that is too long, which gets one that no answer has.
 unfoldable pub statusNumber : Status → ℕ

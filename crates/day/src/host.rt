@@ -1,6 +1,6 @@
 // A report as a host gets it: how it ended as one number, and the figures as a list.
-use crate::Day;
-use crate::Status;
+use jobs::Day;
+use jobs::Status;
 use map::number;
 ghost use mathlib.Core.Path.{_≡_};
 ghost use lib.ListN.{length, take};

@@ -1,31 +1,12 @@
 // The day's report: each job of an input is run as if it were alone with the map, and the figures of all of them are given, with a tally by goal.
-mod entries;
-mod figures;
 mod host;
-mod jobs;
 
+pub use jobs::Day;
+pub use jobs::Status;
 use map::Map;
-use map::number;
 use tally::Tally;
 ghost use Rattle.day.specs.Host.{ReportsFor};
-ghost use Rattle.day.specs.Report.{Reports};
-
-// How a report ended.
-pub enum Status {
-    TooLong,
-    ShortTally,
-    Reported,
-}
-
-// The day's figures: how often each number was answered, the total and the largest cost of the routes, and the total of the expansions. All are 0
-// where there is no report.
-pub struct Day {
-    pub status: Status,
-    pub counts: [u32; number::END],
-    pub cost: u64,
-    pub largest: u32,
-    pub expansions: u32,
-}
+ghost use Rattle.jobs.specs.Report.{Reports};
 
 // The report of a day. What goes over the lent list of records is thin: the figures and the tallies are reckoned as plain numbers, and then put into it.
 pub fn report(input: &[u8], work: &mut [u32], sheet: &mut [u8], tally: &mut [Tally]) -> Day

@@ -8,10 +8,10 @@ use lib.Seq.{take-all, take-at}
 use Rattle.model.specs.Answer.{overFront}
 use Rattle.model.specs.Calls.{KeepsTo}
 use Rattle.tally.specs.declared.Tally.{Tally}
-use Rattle.day.specs.declared.Day.{Day}
-use Rattle.day.specs.declared.Status.{Status}
-use Rattle.day.specs.declared.Status.the-variants.{TooLong, ShortTally, Reported}
-use Rattle.day.specs.Report.{DayResult, report}
+use Rattle.jobs.specs.declared.Day.{Day}
+use Rattle.jobs.specs.declared.Status.{Status}
+use Rattle.jobs.specs.declared.Status.the-variants.{TooLong, ShortTally, Reported}
+use Rattle.jobs.specs.Report.{DayResult, report}
 use Rattle.day.specs.Host.{statusNumber, figuresOf}
 use Rattle.day.specs.Calls.{DayCall, reported}
 use Rattle.day.proofs.Promises.{counts-length, Promises, promises}

@@ -3,7 +3,7 @@ use mathlib.Core.Path.{_≡_}
 use mathlib.Core.List.{List}
 use Prim.Native.Nat.{ℕ, _≤_}
 use lib.ListN.{length, take}
-use Rattle.day.specs.Report.{DayResult, Reports}
+use Rattle.jobs.specs.Report.{DayResult, Reports}
 use Rattle.day.specs.Host.{statusNumber, figuresOf, ReportsFor}
 use Rattle.day.specs.Calls.{DayCall}
 

@@ -6,10 +6,10 @@ use native.Mathlib.Omega.{arith}
 use lib.ListN.{length}
 use borrow.Author.Tests.{eq-eqb, ne-eqb}
 use Rattle.tally.specs.declared.Tally.{Tally}
-use Rattle.day.specs.declared.Day.{Day}
-use Rattle.day.specs.declared.Status.{Status}
-use Rattle.day.specs.declared.Status.the-variants.{TooLong, ShortTally, Reported}
-use Rattle.day.specs.Report.{numbers}
+use Rattle.jobs.specs.declared.Day.{Day}
+use Rattle.jobs.specs.declared.Status.{Status}
+use Rattle.jobs.specs.declared.Status.the-variants.{TooLong, ShortTally, Reported}
+use Rattle.jobs.specs.Report.{numbers}
 use Rattle.text.specs.Text.{line, tooLong, Put}
 use Rattle.text.proofs.Puts.{put-none, put-then}
 use Rattle.text.proofs.Lines.{Below, line-length, wide-line-length}

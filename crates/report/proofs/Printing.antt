@@ -12,13 +12,13 @@ use Rattle.model.specs.Limits.{maxPlaces}
 use Rattle.text.specs.Text.{Put}
 use Rattle.text.proofs.Puts.{put-then, front-within, put-front}
 use Rattle.tally.specs.declared.Tally.{Tally}
-use Rattle.day.specs.declared.Day.{Day}
-use Rattle.day.specs.declared.Status.{Status}
-use Rattle.day.specs.declared.Status.the-variants.{TooLong, ShortTally}
-use Rattle.day.specs.Entries.{entries}
-use Rattle.day.specs.Figures.{results}
+use Rattle.jobs.specs.declared.Day.{Day}
+use Rattle.jobs.specs.declared.Status.{Status}
+use Rattle.jobs.specs.declared.Status.the-variants.{TooLong, ShortTally}
+use Rattle.jobs.specs.Entries.{entries}
+use Rattle.jobs.specs.Figures.{results}
 use Rattle.day.specs.Host.{statusNumber}
-use Rattle.day.specs.Report.{tooLong, figures, without, DayResult, unchanged, afterJobs, report, Reports}
+use Rattle.jobs.specs.Report.{tooLong, figures, without, DayResult, unchanged, afterJobs, report, Reports}
 use Rattle.report.specs.Printed.{goalLine, goalLines, dayText, goalsText, textOf, noTally, reported, printed, Prints, PutWithin}
 
 -- goals that no route ends at have no lines

@@ -10,10 +10,10 @@ use lib.ListN.{length, take, replicate}
 use Rattle.text.specs.Text.{line, tooLong, Put}
 use Rattle.tally.specs.declared.Tally.{Tally}
 use Rattle.tally.specs.Tallied.{tallyWith}
-use Rattle.day.specs.declared.Day.{Day}
-use Rattle.day.specs.declared.Status.{Status}
-use Rattle.day.specs.declared.Status.the-variants.{TooLong, ShortTally, Reported}
-use Rattle.day.specs.Report.{DayResult, report}
+use Rattle.jobs.specs.declared.Day.{Day}
+use Rattle.jobs.specs.declared.Status.{Status}
+use Rattle.jobs.specs.declared.Status.the-variants.{TooLong, ShortTally, Reported}
+use Rattle.jobs.specs.Report.{DayResult, report}
 
 -- a number that occurred, and its count
 unfoldable pub countLine : (number count : ℕ) → List ℕ

@@ -12,7 +12,7 @@ use tally::Tally;
 ghost use Prim.Native.Nat.{_+_, _*_, _≤_};
 ghost use lib.ListN.{length, replicate};
 ghost use Rattle.model.specs.Limits.{maxPlaces};
-ghost use Rattle.day.specs.Report.{numbers, report};
+ghost use Rattle.jobs.specs.Report.{numbers, report};
 ghost use Rattle.text.specs.Text.{Put};
 ghost use Rattle.report.specs.Printed.{countLine, countLines, figuresLine, goalLine, goalLines, dayText, textOf, noTally, Prints};
 ghost use Rattle.report.specs.Printed.{countRoom, wideRoom, dayRoom, textRoom, PutWithin};

@@ -17,12 +17,12 @@ use Rattle.tally.proofs.Walk.{plain, Contract, Triple, onEntry, Meets, tripleOf
 use Rattle.tally.proofs.Walk.{Walks, walkOf, walked, walk-meets, ends-at, Stays, stay-none-slice, gave-slice, goes-none-slice, goes-gave-slice}
 use Rattle.tally.proofs.Records.{R}
 use Rattle.tally.specs.declared.Tally.{Tally}
-use Rattle.day.specs.declared.Day.{Day}
+use Rattle.jobs.specs.declared.Day.{Day}
 use Rattle.day.specs.Host.{Told, ReportsFor}
-use Rattle.day.specs.Report.{Reports}
+use Rattle.jobs.specs.Report.{Reports}
 use Rattle.day.proofs.Telling.{reported}
-use Rattle.day.proofs.Day as D
-use Rattle.day.proofs.Day.Laws as D′
+use Rattle.jobs.proofs.Day as D
+use Rattle.jobs.proofs.Day.Laws as D′
 use Rattle.day.proofs.report as report
 use Rattle.day.proofs.report.Symbol as report-def
 use Rattle.day.proofs.report.Symbol.{name as #day·report}

@@ -20,18 +20,18 @@ use Rattle.tally.proofs.Locals.{big-lit, repeat-typed, repeated, on, OwnMut, Ow
 use Rattle.tally.proofs.Records.{R}
 use Rattle.tally.specs.declared.Tally.{Tally}
 use Rattle.tally.specs.Tallied.{Puttable, putTo}
-use Rattle.day.specs.declared.Day.{Day}
-use Rattle.day.specs.declared.jobs.Reckoning.{Reckoning}
-use Rattle.day.specs.Steps.{Blank, Reckoned}
-use Rattle.day.specs.Report.{Reports}
-use Rattle.day.proofs.Day as D
-use Rattle.day.proofs.Day.Laws as D′
-use Rattle.day.proofs.jobs.Reckoning as Q
-use Rattle.day.proofs.jobs.Reckoning.Laws as Q′
-use Rattle.day.proofs.jobs.reckon as reckon
-use Rattle.day.proofs.jobs.reckon.Symbol as reckon-def
-use Rattle.day.proofs.jobs.reckon.Symbol.{name as #day·jobs·reckon}
-use Rattle.day.proofs.jobs.reckon.Met as reckon-thm
+use Rattle.jobs.specs.declared.Day.{Day}
+use Rattle.jobs.specs.declared.Reckoning.{Reckoning}
+use Rattle.jobs.specs.Steps.{Blank, Reckoned}
+use Rattle.jobs.specs.Report.{Reports}
+use Rattle.jobs.proofs.Day as D
+use Rattle.jobs.proofs.Day.Laws as D′
+use Rattle.jobs.proofs.Reckoning as Q
+use Rattle.jobs.proofs.Reckoning.Laws as Q′
+use Rattle.jobs.proofs.reckon as reckon
+use Rattle.jobs.proofs.reckon.Symbol as reckon-def
+use Rattle.jobs.proofs.reckon.Symbol.{name as #jobs·reckon}
+use Rattle.jobs.proofs.reckon.Met as reckon-thm
 use Rattle.tally.proofs.put as put
 use Rattle.tally.proofs.put.Symbol as put-def
 use Rattle.tally.proofs.put.Symbol.{name as #tally·put}
@@ -262,7 +262,7 @@ module _ {M : Type 1} (𝓤 : URA M) (H : Heap 𝓤) (A : Atoms 𝓤) (mem : Mem
       abbrev Ends-put : ℕ → List Tally × (Unit {0} × (Unit {0} × (Unit {0} × Unit {0}))) → Item 𝓤
       Ends-put n ys = ‵ (lasts put.ended put-lfts (put-args n) ys) ⊛ raw (fact 𝓤 (ys .0 ≡ putTo n rs cs ts))
 
-    walk : (𝓣 : Tables 𝓤 H) → Triple 𝓤 (𝓣 .C #day·jobs·reckon) Reckon → Triple 𝓤 (𝓣 .C #tally·put) Put
+    walk : (𝓣 : Tables 𝓤 H) → Triple 𝓤 (𝓣 .C #jobs·reckon) Reckon → Triple 𝓤 (𝓣 .C #tally·put) Put
         → ent 𝓤 (onEntry 𝓤 H A report.signature (κ₀, (κ₁, (κ₂, (κ₃, tt)))) (q₀, (q₁, (q₂, (q₃, tt)))) a at)
         (WpFn 𝓤 H (𝓣 .C) (𝓣 .Λ) code.function (s₀ ∷ s₁ ∷ s₂ ∷ s₃ ∷ []) Post)
     walk 𝓣 reckon-known put-known =
@@ -401,7 +401,7 @@ module _ {M : Type 1} (𝓤 : URA M) (H : Heap 𝓤) (A : Atoms 𝓤) (mem : Mem
         (subst (Reports is ws ss ts (r .day) (work-in zs) (sheet-in zs)) (sym put-is)
         (told .reports ts refl))))))))))))))))))))))))))))))))))))))))))))))))
 
-  report-walks : Given 𝓤 H A → (𝓣 : Tables 𝓤 H) → Triple 𝓤 (𝓣 .C #day·jobs·reckon) Reckon → Triple 𝓤 (𝓣 .C #tally·put) Put
+  report-walks : Given 𝓤 H A → (𝓣 : Tables 𝓤 H) → Triple 𝓤 (𝓣 .C #jobs·reckon) Reckon → Triple 𝓤 (𝓣 .C #tally·put) Put
       → Walks 𝓤 H A report.ended stayed (WpFn 𝓤 H (𝓣 .C) (𝓣 .Λ) code.function) (report.clauses 𝓤 H A mem run)
   report-walks W 𝓣 reckon-known put-known = walked 𝓤 H A report.ended stayed (report.clauses 𝓤 H A mem run) (WpFn 𝓤 H (𝓣 .C) (𝓣 .Λ) code.function)
       (λ κs. (slice-vals, (slice-vals, (slice-vals, (slice-vals, tt)))))
@@ -419,7 +419,7 @@ module _ {M : Type 1} (𝓤 : URA M) (H : Heap 𝓤) (A : Atoms 𝓤) (mem : Mem
       (a .1 .1 .1 .0 .ptr .0) (a .1 .1 .1 .0 .ptr .1) (a .1 .1 .1 .0 .name) (a .1 .1 .1 .0 .now)
       (are .0 .0 .1) (are .1 .0 .0 .1) (are .1 .1 .0 .0 .1) (are .1 .1 .1 .0 .0 .1) 𝓣 reckon-known put-known))
 
-  report-meets : Given 𝓤 H A → (𝓣 : Tables 𝓤 H) → Triple 𝓤 (𝓣 .C #day·jobs·reckon) Reckon → Triple 𝓤 (𝓣 .C #tally·put) Put
+  report-meets : Given 𝓤 H A → (𝓣 : Tables 𝓤 H) → Triple 𝓤 (𝓣 .C #jobs·reckon) Reckon → Triple 𝓤 (𝓣 .C #tally·put) Put
       → Meets 𝓤 H A report.signature (WpFn 𝓤 H (𝓣 .C) (𝓣 .Λ) code.function) (report.spec 𝓤 H A mem run)
   report-meets W 𝓣 reckon-known put-known =
       walk-meets 𝓤 H A report.ended stayed W (
@@ -438,6 +438,6 @@ report-spec 𝓤 H 𝓜 𝓖 𝓡 =
     entered 𝓤 H (tripleOf 𝓤 H (𝓖 .A) report.signature (report.spec 𝓤 H (𝓖 .A) (𝓜 .mem) (𝓡 .run)))
     (tables 𝓤 H 𝓜 𝓡 code.env .C) (tables 𝓤 H 𝓜 𝓡 code.env .Λ) #day·report code.function (code.unfolded 𝓤 H 𝓜 𝓡)
     (report-meets 𝓤 H (𝓖 .A) (𝓜 .mem) (𝓡 .run) (givenOf 𝓤 H 𝓜 𝓖) (tablesOf 𝓤 H 𝓜 (tables 𝓤 H 𝓜 𝓡 code.env))
-    (cited 𝓤 H (Reckon 𝓤 H (𝓖 .A) (𝓜 .mem) (𝓡 .run)) 𝓜 𝓡 code.env #day·jobs·reckon reckon-def.routine code.calls-day·jobs·reckon
+    (cited 𝓤 H (Reckon 𝓤 H (𝓖 .A) (𝓜 .mem) (𝓡 .run)) 𝓜 𝓡 code.env #jobs·reckon reckon-def.routine code.calls-jobs·reckon
     (reckon-thm.met 𝓤 H 𝓜 𝓖 𝓡))
     (cited 𝓤 H (Put 𝓤 H (𝓖 .A) (𝓜 .mem) (𝓡 .run)) 𝓜 𝓡 code.env #tally·put put-def.routine code.calls-tally·put (put-thm.met 𝓤 H 𝓜 𝓖 𝓡)))

@@ -26,10 +26,10 @@ use Rattle.tally.proofs.Records.{R, vals, val, made}
 use Rattle.tally.proofs.Tally as T
 use Rattle.tally.proofs.Tally.Laws as T′
 use Rattle.tally.specs.declared.Tally.{Tally}
-use Rattle.day.specs.declared.Day.{Day}
-use Rattle.day.specs.Report.{Reports, report as reported}
-use Rattle.day.proofs.Day as D
-use Rattle.day.proofs.Day.Laws as D′
+use Rattle.jobs.specs.declared.Day.{Day}
+use Rattle.jobs.specs.Report.{Reports, report as reported}
+use Rattle.jobs.proofs.Day as D
+use Rattle.jobs.proofs.Day.Laws as D′
 use Rattle.text.specs.Text.{Put}
 use Rattle.model.specs.Limits.{maxPlaces}
 use Rattle.report.specs.Printed.{goalLines, dayText, textOf, noTally, wideRoom, dayRoom, textRoom, PutWithin}

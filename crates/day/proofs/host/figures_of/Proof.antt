@@ -5,7 +5,7 @@ use native.Mathlib.Omega.{arith}
 use lib.Seq.{paste}
 use mir.Syntax.{w32, w64}
 use borrow.Author.Needs.{needs, elem-fits-field}
-use Rattle.day.specs.Report.{numbers}
+use Rattle.jobs.specs.Report.{numbers}
 use Rattle.day.proofs.Telling.{one-count-more, all-figures}
 use Rattle.day.proofs.host.figures_of.Statement.{statement}
 use Rattle.day.proofs.host.figures_of.Tie as tie
