@@ -5,32 +5,31 @@ use mathlib.Core.Path.{_≡_, refl, sym, ap, subst⁻¹, _∙_}
 use mathlib.Core.Logic.{_↔_, _⊎_, inl, inr}
 use mathlib.Core.Bool.{Bool, true, false, cond, _||_}
 use mathlib.Core.List.{List, [], _∷_, _++_, map, List·Memᴰ}
-use Prim.Native.Nat.{ℕ, _+_, _*_, _≤_, _<_}
+use Prim.Native.Nat.{ℕ, _+_, _≤_, _<_}
 use native.Mathlib.Omega.{arith}
 use lib.Dec.{ltb}
 use borrow.Author.Tests.{ne-eqb, ltb-true, ltb-false}
 use lib.ListN.{length, drop, getD}
-use Rattle.model.specs.Answer.{Result, answer, route}
-use Rattle.model.specs.Bytes.{Bytes}
+use Rattle.model.specs.Answer.{Result, answer, refusedWith, route}
 use Rattle.model.specs.Calls.{Alike, KeepsTo}
 use Rattle.model.specs.Framing.{Record, frame}
 use Rattle.model.specs.Limits.{maxPlaces}
-use Rattle.model.specs.Lists.{filter, below}
+use Rattle.model.specs.Lists.{filter}
 use Rattle.model.specs.Sums.{sumBelow, sumOver}
 use Rattle.tally.specs.declared.Tally.{Tally}
 use Rattle.jobs.specs.declared.Status.{Status}
 use Rattle.jobs.specs.declared.Status.the-variants.{TooLong, ShortTally, Reported}
 use Rattle.day.specs.Host.{statusNumber}
 use Rattle.jobs.specs.Entries.{alone, refused, isJob, beforeJob, fromJob, entries}
-use Rattle.jobs.specs.Figures.{results, hasNumber, count, arrivals, arrivalOf, totalCost, endingAt, totalExpansions}
+use Rattle.jobs.specs.Figures.{results, hasNumber, count, arrivals, arrivalOf, totalCost, totalExpansions}
 use Rattle.day.specs.Calls.{DayCall, reported, Reporter, recordFor}
 use Rattle.jobs.specs.Report.{maxInput, maxEntries, numbers, tooLong, figures, without, tallyOf, tallied, DayResult, unchanged, afterJobs, report}
 use Rattle.model.proofs.Sums.{sum-same}
-use Rattle.jobs.proofs.Bounded.{maxRoute, maxExpansions, Bounded}
+use Rattle.jobs.proofs.Bounded.{Bounded}
 use Rattle.jobs.proofs.ByKey.{values-length, value-at, value-before, others-behind}
 use Rattle.jobs.proofs.FigureLaws as laws
 use Rattle.jobs.proofs.EntryLaws.{all-sound, alone-records}
-use Rattle.jobs.proofs.ResultLaws.{results-bounded, results-length, each-alone}
+use Rattle.jobs.proofs.ResultLaws.{results-bounded, results-length, each-alone, each-refused}
 use Rattle.day.proofs.LargestDay.{largest-day}
 
 -- How a call ends.
@@ -43,7 +42,7 @@ pub record Ends (c : DayCall) (r : DayResult) : Type 0 where
   pub unchanged : (r .day .status ≡ Reported → ⊥) → (r .work ≡ c .work) × (r .sheet ≡ c .sheet) × (r .tally ≡ c .tally)
 
 -- What a report says.
-pub record Reports (c : DayCall) (r : DayResult) : Type 0 where
+pub record Says (c : DayCall) (r : DayResult) : Type 0 where
   -- what the jobs came to, one after another
   pub came : List Result
   pub one-each : length came ≡ length (entries (c .input))
@@ -51,6 +50,9 @@ pub record Reports (c : DayCall) (r : DayResult) : Type 0 where
   -- were lent
   pub as-alone : (k : ℕ) (i : List ℕ) → k < length came → getD (entries (c .input)) k (refused 0) ≡ alone i
       → Alike (getD came k (route i (c .work) (c .sheet))) (route i (c .work) (c .sheet))
+  -- "a later record that is no job counts as one job refused with 10, and a broken tail … as one refused with 1": with zeros besides
+  pub as-refused : (k n : ℕ) → k < length came → getD (entries (c .input)) k (refused 0) ≡ refused n
+      → getD came k (refusedWith n (c .work) (c .sheet)) .answer ≡ answer n 0 0 0 0 0 0
   -- "The map is all records before the first job": what is run is these and one job, and nothing else
   pub map-and-job : (i : List ℕ) → List·Memᴰ (alone i) (entries (c .input))
       → (j : Record) × List·Memᴰ j (fromJob (frame (c .input) .records)) × (isJob j ≡ true)
@@ -79,7 +81,7 @@ pub record Reports (c : DayCall) (r : DayResult) : Type 0 where
 
 pub record Promises (P : Reporter) : Type 0 where
   pub ends : (c : DayCall) (r : DayResult) → P c r → Ends c r
-  pub reports : (c : DayCall) (r : DayResult) → P c r → r .day .status ≡ Reported → Reports c r
+  pub reports : (c : DayCall) (r : DayResult) → P c r → r .day .status ≡ Reported → Says c r
   -- a day may cost as much as a day can, at one goal, which 32 bits do not hold
   pub cost-attained : (c : DayCall) × (r : DayResult) × P c r × (r .day .cost ≡ 268365825000) × (recordFor r 4095 .cost ≡ 268365825000)
 
@@ -223,12 +225,13 @@ module _ (c : DayCall) where
     unfolding afterJobs tallied
     others-stay = others-behind (tallyOf (arrivals came)) maxPlaces (drop maxPlaces (c .tally))
 
-    reports-by : Reports c after
+    reports-by : Says c after
     unfolding came afterJobs figures
     reports-by = record {
       came = came;
       one-each = results-length (entries (c .input)) (c .work) (c .sheet);
       as-alone = λ k i l is. each-alone (entries (c .input)) (c .work) (c .sheet) (all-sound (c .input) (c .bytes)) k i (rw results-length at l) is;
+      as-refused = λ k n l is. each-refused _ (entries (c .input)) (c .work) (c .sheet) k n (rw results-length at l) is;
       map-and-job = alone-records (c .input);
       turned-down = λ rs j ss is other else. rw is (no-arrival rs j ss other, no-expansions rs j ss other else);
       no-route = λ rs j ss is n. rw is (no-arrival rs j ss (λ e. omega arith), own-expansions rs j ss n);
@@ -243,7 +246,7 @@ module _ (c : DayCall) where
       expansions-at-most = omega (arith, laws.expansions-at-most came bounded, came-few);
     }
 
-reports-where : (c : DayCall) (r : DayResult) → Way c r → r .day .status ≡ Reported → Reports c r
+reports-where : (c : DayCall) (r : DayResult) → Way c r → r .day .status ≡ Reported → Says c r
 unfolding unchanged without statusNumber came
 reports-where c r (long h) e = absurd (differ (λ n. omega arith) e)
 reports-where c r (short h g l) e = absurd (differ (λ n. omega arith) e)
@@ -263,6 +266,6 @@ counts-length c = counts-by c (reported c) (way c)
 pub promises : (P : Reporter) → KeepsTo reported P → Promises P
 promises P keeps = record {
   ends = λ c r g. subst⁻¹ (λ x. Ends c x) (keeps .only c r g) (ends-by c (reported c) (way c));
-  reports = λ c r g. subst⁻¹ (λ x. x .day .status ≡ Reported → Reports c x) (keeps .only c r g) (reports-where c (reported c) (way c));
+  reports = λ c r g. subst⁻¹ (λ x. x .day .status ≡ Reported → Says c x) (keeps .only c r g) (reports-where c (reported c) (way c));
   cost-attained = let (c, is-reported, cost, at-goal) = largest-day in (c, reported c, keeps .gives c, cost, at-goal);
 }

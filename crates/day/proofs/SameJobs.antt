@@ -19,6 +19,7 @@ use Rattle.model.specs.Sums.{sumOver}
 use Rattle.model.proofs.Bytes.{append-bytes, no-bytes}
 use Rattle.model.proofs.Framing.{frame-none, frame-put, frame-more, frame-whole, by-records}
 use Rattle.model.proofs.Records as records
+use Rattle.model.proofs.Promises.{lengths-decide}
 use Rattle.tally.specs.declared.Tally.{Tally}
 use Rattle.jobs.specs.declared.Status.the-variants.{Reported}
 use Rattle.jobs.specs.Entries.{alone, isJob, beforeJob, fromJob, bytesOf, mapIn, entryOf, entriesOf, tailOf, entries}
@@ -26,7 +27,7 @@ use Rattle.jobs.specs.Figures.{resultOf, results, hasNumber, Arrival, goalOf, a
 use Rattle.jobs.specs.Report.{maxInput, maxEntries, tooLong, figures, tallyOf, tallied, DayResult, afterJobs, report}
 use Rattle.jobs.proofs.ByKey.{value-before}
 use Rattle.jobs.proofs.EntryLaws.{job-by-kind}
-use Rattle.jobs.proofs.ResultLaws.{areas-keep, as-if-alone}
+use Rattle.jobs.proofs.ResultLaws.{areas-keep}
 use Rattle.day.specs.Calls.{recordFor}
 
 -- ---- A map
@@ -152,7 +153,7 @@ module _ (i work₀ sheet₀ : List ℕ) (B : Bytes i) (routed : route i work₀
   unfolding results resultOf
   same-arrivals-in zero work sheet words bytes = unfold arrivals filter in refl
   same-arrivals-in (suc k) work sheet words bytes =
-      let same = as-if-alone i work sheet work₀ sheet₀ words bytes B in
+      let same = lengths-decide i B work work₀ sheet sheet₀ words bytes in
       let number : route i work sheet .answer .number ≡ 0 = rw (same .numbers) routed in
       let (words-keep, bytes-keep) = areas-keep i work sheet in
       let later = same-arrivals-in k _ _ (words-keep ∙ words) (bytes-keep ∙ bytes) in

@@ -8,7 +8,7 @@ use Rattle.tally.specs.declared.Tally.{Tally}
 use Rattle.jobs.specs.declared.Day.{Day}
 use Rattle.jobs.specs.declared.Status.{Status}
 use Rattle.jobs.specs.declared.Status.the-variants.{TooLong, ShortTally, Reported}
-use Rattle.jobs.specs.Report.{DayResult, report}
+use Rattle.jobs.specs.Report.{report}
 
 -- 15 is the paper's number. It gives none to an input that is too long, which gets one that no answer has.
 unfoldable pub statusNumber : Status → ℕ

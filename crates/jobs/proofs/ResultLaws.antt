@@ -24,19 +24,19 @@ use Rattle.model.specs.Refusals.{Row, firstThatHolds, refusal, rows, inputRows,
 use Rattle.model.specs.Refusals.{holdsAt, workWords, sheetBytes, shortWork, shortSheet, Accepted}
 use Rattle.model.specs.Sheets.{routeSheet, noRouteSheet, reading}
 use Rattle.model.specs.Endings.{Ending, budgeted}
-use Rattle.model.specs.Answer.{Result, sheetOf, overFront, refusedWith, endedWith, callIf, call, route}
+use Rattle.model.specs.Answer.{Result, answer, sheetOf, overFront, refusedWith, endedWith, callIf, call, route}
 use Rattle.model.specs.Calls.{Call, result, problem, IsAccepted, written, Alike}
 use Rattle.model.proofs.Lists.{neither, below-member, below-length, different-among}
-use Rattle.model.proofs.Bytes.{put16s-length, u16-put16, u16-behind}
+use Rattle.model.proofs.Bytes.{u16-put16, u16-behind}
 use Rattle.model.proofs.Indices.{different-repeats}
 use Rattle.model.proofs.Rows.{row-fails, rows-numbered}
 use Rattle.model.proofs.Acceptance.{accepted-valid, states-growth}
 use Rattle.model.proofs.Total.{total-at-most, never-spent-at-2}
 use Rattle.model.proofs.LeastPaths.{route-within}
-use Rattle.model.proofs.Sheets.{Possible}
+use Rattle.model.proofs.Sheets.{Possible, route-length}
 use Rattle.model.proofs.RouteSheets.{route-possible}
 use Rattle.model.proofs.Endings.{Ends, spent-ends, none-ends, route-ends, IsRouted, budgeted-ends}
-use Rattle.model.proofs.Promises.{EndsAs, comes, valid, ends, refusalOf, same-calls, spent-answer, none-answer, route-answer, placesOf, route-sheet-is}
+use Rattle.model.proofs.Promises.{EndsAs, comes, valid, ends, refusalOf, lengths-decide, spent-answer, none-answer, route-answer, placesOf, route-sheet-is}
 use Rattle.model.proofs.Promises.{route-by-number, expansions-at-most, route-reads-back}
 use Rattle.jobs.specs.Entries.{Entry, alone, refused}
 use Rattle.jobs.specs.Figures.{resultOf, results, goalOf}
@@ -91,10 +91,6 @@ field-at (x ∷ xs) zero l h = u16-put16 [] x (put16s xs) h
 field-at (x ∷ xs) (suc k) l h =
     let behind : 2 * suc k ≡ 2 + 2 * k = omega arith in
     rw (behind, u16-behind (put16 x) (put16s xs) (2 * k)) (field-at xs k (omega arith) h)
-
-route-length : (cost : ℕ) (r : List ℕ) → length (routeSheet cost r) ≡ 10 + 2 * length r
-unfolding routeSheet putRecord put16 put32
-route-length cost r = omega (arith, put16s-length r)
 
 -- place k stands behind the 10 bytes of the header and 2 for each place before it
 place-at : (cost : ℕ) (r : List ℕ) (k : ℕ) → k < length r → getD r k 0 < 65536 → u16 (routeSheet cost r) (10 + 2 * k) ≡ getD r k 0
@@ -287,13 +283,6 @@ areas-keep input work sheet = go (refusal (frame input) (length work) (length sh
 
 -- ---- As if alone
 
--- Numbers and sheet depend on the lengths of the lent areas, and not on what they hold.
-pub as-if-alone : (input work₁ sheet₁ work₂ sheet₂ : List ℕ) → length work₁ ≡ length work₂ → length sheet₁ ≡ length sheet₂ → Bytes input
-    → Alike (route input work₁ sheet₁) (route input work₂ sheet₂)
-as-if-alone input work₁ sheet₁ work₂ sheet₂ words bytes B =
-    same-calls (record { input = input; work = work₁; sheet = sheet₁; bytes = B })
-    (record { input = input; work = work₂; sheet = sheet₂; bytes = B }) (rw (words, bytes)) (λ A. refl)
-
 -- every entry keeps the lengths of the areas too
 entry-keeps : (e : Entry) (work sheet : List ℕ)
     → (length (resultOf e work sheet .work) ≡ length work) × (length (resultOf e work sheet .sheet) ≡ length sheet)
@@ -316,7 +305,7 @@ module _ (i : List ℕ) (work₀ sheet₀ : List ℕ) where
   alone-among [] work sheet words bytes sound k l is = absurd (omega arith)
   alone-among (e ∷ es) work sheet words bytes sound zero l is =
       let B : Bytes i = rw is at (sound e (List·Memᴰ·head refl)) in
-      rw is (as-if-alone i work sheet work₀ sheet₀ words bytes B)
+      rw is (lengths-decide i B work work₀ sheet sheet₀ words bytes)
   alone-among (e ∷ es) work sheet words bytes sound (suc k) l is =
       let (same-words, same-bytes) = entry-keeps e work sheet in
       alone-among es (resultOf e work sheet .work) (resultOf e work sheet .sheet) (same-words ∙ words) (same-bytes ∙ bytes)
@@ -326,3 +315,12 @@ module _ (i : List ℕ) (work₀ sheet₀ : List ℕ) where
 pub each-alone : (es : List Entry) (work sheet : List ℕ) → ((e : Entry) → List·Memᴰ e es → Sound e) → (k : ℕ) (i : List ℕ)
     → k < length es → getD es k (refused 0) ≡ alone i → Alike (getD (results es work sheet) k (route i work sheet)) (route i work sheet)
 each-alone es work sheet sound k i l is = alone-among i work sheet es work sheet refl refl sound k l is
+
+-- What is refused unrun has its number and zeros.
+pub each-refused : (d : Result) (es : List Entry) (work sheet : List ℕ) (k n : ℕ) → k < length es → getD es k (refused 0) ≡ refused n
+    → getD (results es work sheet) k d .answer ≡ answer n 0 0 0 0 0 0
+unfolding results resultOf refusedWith
+each-refused d [] work sheet k n l is = absurd (omega arith)
+each-refused d (e ∷ es) work sheet zero n l is = rw is refl
+each-refused d (e ∷ es) work sheet (suc k) n l is =
+    each-refused d es (resultOf e work sheet .work) (resultOf e work sheet .sheet) k n (omega arith) is

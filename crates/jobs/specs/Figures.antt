@@ -1,7 +1,7 @@
 -- Document 02, paper 6: the figures of a day, of what its jobs come to.
 use mathlib.Core.Bool.{Bool, _||_}
 use mathlib.Core.List.{List, [], _∷_, map}
-use Prim.Native.Nat.{ℕ, zero, suc, _-_, max}
+use Prim.Native.Nat.{ℕ, _-_, max}
 use lib.Dec.{eqb}
 use lib.ListN.{length, getD}
 use Rattle.model.specs.Answer.{Result, route, refusedWith}

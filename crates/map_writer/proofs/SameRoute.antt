@@ -16,7 +16,7 @@ use Rattle.model.specs.Terms.{SameProblem}
 use Rattle.model.proofs.Rows.{refusal-parts}
 use Rattle.model.proofs.Acceptance.{accepted-valid}
 use Rattle.model.proofs.Same.{same-ending}
-use Rattle.model.proofs.Promises.{same-calls}
+use Rattle.model.proofs.Promises.{lengths-decide}
 use Rattle.sort.proofs.SortLaws.{sort-member}
 use Rattle.map_writer.specs.Order.{noLater}
 use Rattle.map_writer.specs.Canonical.{canonical, write}
@@ -43,13 +43,6 @@ canonical-problem s inside =
       goal-to = λ g i. i;
       goal-from = λ g i. i;
     }
-
--- numbers and sheet depend on the lengths of the lent areas, and not on what they hold
-lengths-decide : (input : List ℕ) → Bytes input → (work work′ sheet sheet′ : List ℕ) → length work ≡ length work′ → length sheet ≡ length sheet′
-    → Alike (route input work′ sheet′) (route input work sheet)
-lengths-decide input B work work′ sheet sheet′ words bytes =
-    same-calls (record { input = input; work = work′; sheet = sheet′; bytes = B }) (record { input = input; work = work; sheet = sheet; bytes = B })
-    (rw (words, bytes)) (λ A. refl)
 
 module _ (input : List ℕ) (B : Bytes input) (passes : inputRefusal (frame input) ≡ 0) where
   abbrev s : Stated
@@ -96,4 +89,4 @@ module _ (input : List ℕ) (B : Bytes input) (passes : inputRefusal (frame inpu
   -- with others of the same lengths the answer and the sheet are the same
   pub written-routes : (work work′ sheet sheet′ : List ℕ) → length work ≡ length work′ → length sheet ≡ length sheet′
       → Alike (route b work′ sheet′) (route input work sheet)
-  written-routes work work′ sheet sheet′ words bytes = rw written-route (lengths-decide input B work work′ sheet sheet′ words bytes)
+  written-routes work work′ sheet sheet′ words bytes = rw written-route (lengths-decide input B work′ work sheet′ sheet (sym words) (sym bytes))

@@ -9,6 +9,7 @@ use lib.Dec.{eqb}
 use lib.ListN.{length, take}
 use lib.Seq.{take-append-seam}
 use borrow.Author.Tests.{eqb-false}
+use Rattle.model.specs.Bytes.{Bytes}
 use Rattle.model.specs.Framing.{frame}
 use Rattle.model.specs.Limits.{maxPlaces}
 use Rattle.model.specs.Problem.{Problem, Valid}
@@ -113,6 +114,13 @@ same-calls c d same ends-same = go (refusalOf c) refl
           sheets = one .on-sheet ∙ ap sheetOf (ends-same e) ∙ sym (other .on-sheet);
         }
     go (suc n) e = rw (← same, e) record { numbers = refl; sheets = refl }
+
+-- Numbers and sheet depend on the lengths of the lent areas, and not on what they hold.
+pub lengths-decide : (input : List ℕ) → Bytes input → (work work′ sheet sheet′ : List ℕ) → length work ≡ length work′ → length sheet ≡ length sheet′
+    → Alike (route input work sheet) (route input work′ sheet′)
+lengths-decide input B work work′ sheet sheet′ words bytes =
+    same-calls (record { input = input; work = work; sheet = sheet; bytes = B }) (record { input = input; work = work′; sheet = sheet′; bytes = B })
+    (rw (words, bytes)) (λ A. refl)
 
 -- only an accepted call spends its allowance
 pub spent-accepted : (c : Call) → Spent (result c) → IsAccepted c

@@ -52,6 +52,11 @@ pub record Possible (cost : ℕ) (places : List ℕ) : Type 0 where
   pub cost-above : length places - 1 ≤ cost
   pub cost-below : cost ≤ (length places - 1) * maxCost
 
+-- a route sheet has 10 bytes, and 2 for each place
+pub route-length : (cost : ℕ) (places : List ℕ) → length (routeSheet cost places) ≡ 10 + 2 * length places
+unfolding routeSheet putRecord put16 put32
+route-length cost places = omega (arith, put16s-length places)
+
 pub possible : (cost : ℕ) (places : List ℕ) → impossible cost places ≡ false → Possible cost places
 unfolding impossible
 possible cost places e =

@@ -13,6 +13,7 @@ use Rattle.model.specs.Framing.{putRecord}
 use Rattle.model.specs.Sheets.{routeKind, noRouteKind, routeSheet, noRouteSheet}
 use Rattle.model.specs.Answer.{overFront}
 use Rattle.model.proofs.Bytes.{put16s-length}
+use Rattle.model.proofs.Sheets.{route-length}
 use Rattle.sheet_writer.specs.Header.{header, FitsHeader, HeaderWritten}
 use Rattle.sheet_writer.specs.Places.{ArcsCounted, FitsPlaces}
 use Rattle.sheet_writer.specs.Write.{NoRouteWritten, FitsRoute, RouteWritten}
@@ -51,10 +52,6 @@ header-places cost places =
 header-length : (cost count : ℕ) → length (header cost count) ≡ 10
 unfolding header put16 put32
 header-length cost count = refl
-
-route-length : (cost : ℕ) (places : List ℕ) → length (routeSheet cost places) ≡ 10 + 2 * length places
-unfolding routeSheet putRecord put16 put32
-route-length cost places = omega (arith, put16s-length places)
 
 pub route-written : {n goal cost count : ℕ} {w area₀ area₁ area : List ℕ} (h : FitsRoute n goal w area₀) → count ≡ length (h .leads .places)
     → HeaderWritten cost count area₀ area₁ → area ≡ sets area₁ 10 (put16s (h .leads .places)) → RouteWritten n goal cost w area₀ area (10 + 2 * count)
