@@ -1,5 +1,5 @@
-// Times the report of a day against the same report by hand in C++ (plain_day.hpp): 1,000 jobs on one map, for several maps. The lines under the table
-// say what its columns are. bench/run builds and runs it: day WAREHOUSE, a file with the map of the first row.
+// Times the report of a day against the same report by hand in C++ (plain_day.hpp): 1,000 jobs on one map, for several maps. The lines under the
+// table say what its columns are. bench/run builds and runs it: day WAREHOUSE, a file with the map of the first row.
 #include <fstream>
 #include <iterator>
 #include <numeric>

@@ -50,16 +50,17 @@ uint32_t r3_route(const uint8_t *input, size_t length, uint32_t *work, size_t wo
 uint32_t r3_write_map(const uint8_t *input, size_t length, uint32_t *work, size_t words, uint8_t *output, size_t bytes,
                       uint32_t *answer, size_t room);
 
-/* libday.a: the report of a day. The input is a map, that is all records before the first job, and then up to 1,000 records, each of which counts
- * as one job: a job is routed as if it were alone with the map, by r3_route with the work and sheet areas as they are lent; any other record is
- * refused with 10, and a broken tail with 1. The input is read; work, sheet, tally and figures are lent to the call. How the report ended comes
- * back:
- * 0: record g of the tally, for g from 0 to 4,095, holds g, how many routes end there, and what they cost; later records have not changed. Work and
- *    sheet areas are as the last job left them
+/* libday.a: the report of a day. The input is a map, that is all records before the first job, and then up to 1,000 records, each of
+ * which counts as one job: a job is routed as if it were alone with the map, as by r3_route with the work and sheet areas that are lent;
+ * any other record is refused with 10, and a broken tail with 1. The input is read; work, sheet, tally and figures are lent to the call.
+ * How the report ended comes back.
+ * 0: record g of the tally, for g from 0 to 4,095, holds g, how many routes end there, and what they cost, whatever it held before; later
+ *    records have not changed. Work and sheet areas are as the last job left them
  * 15: the tally has fewer than 4,096 records. It has not changed, nor has the work area or the sheet area
- * R3_TOO_LONG: the input has more than 65,536 bytes, or more than 1,000 records after the map, a broken tail being one. No area has changed
- * As many figures as there is room for are stored: the total cost of all routes, the largest, the total of the expansions of routes and of jobs with no
- * route, and then how many jobs came to number 0, 1 and so on up to 21. All are 0 where no report was made. */
+ * R3_TOO_LONG: the input has more than 65,536 bytes, or more than 1,000 records after the map, a broken tail being one. Neither area and
+ *    no record has changed
+ * As many figures as there is room for are stored: the total cost of all routes, the largest, the total of the expansions of jobs with a
+ * route and with no route, and then how many jobs came to number 0, 1 and so on up to 21. All are 0 where no report was made. */
 #define R3_TOO_LONG 255
 #define R3_RECORDS 4096
 #define R3_FIGURES 25

@@ -126,7 +126,8 @@ class Test {
 
     bool as_by_hand(const Bytes &input)
     {
-        size_t places = input.size() < 8 ? 1 : std::min(plain::u16(&input[4]), 4096u), arcs = input.size() < 8 ? 0 : std::min(plain::u16(&input[6]), 16384u);
+        size_t places = input.size() < 8 ? 1 : std::min(plain::u16(&input[4]), 4096u),
+               arcs = input.size() < 8 ? 0 : std::min(plain::u16(&input[6]), 16384u);
         Lent lent = {R3_WORDS_OF(places, arcs), R3_BYTES_OF(places), R3_RECORDS, R3_FIGURES};
         uint32_t way = below(16);
         if (way == 0)

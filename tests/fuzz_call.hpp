@@ -1,5 +1,5 @@
-// What the fuzzer's targets for r3_route, r3_write_map and r3_report share. A fuzz input is two bytes, signed, by which the words and bytes lent differ from
-// what the call asks for, and then the call's input.
+// What the fuzzer's targets for r3_route, r3_write_map and r3_report share. A fuzz input is two bytes, signed, by which the words and bytes lent
+// differ from what the call asks for, and then the call's input.
 #pragma once
 #include "compare.hpp"
 #include "mutate.hpp"

@@ -1,5 +1,5 @@
-// The fuzzer's target for r3_report, which tests/fuzz builds and runs. The archive has no instrumentation: plain_day.hpp guides the fuzzer, and so does
-// what the jobs of a day come to.
+// The fuzzer's target for r3_report, which tests/fuzz builds and runs. The archive has no instrumentation: plain_day.hpp guides the fuzzer, and so
+// does what the jobs of a day come to.
 #include "compare_day.hpp"
 #include "fuzz_call.hpp"
 

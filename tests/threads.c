@@ -1,6 +1,6 @@
 /* Runs the exported calls in several threads at once, each on just the stack that r3.h names: the longest route that a map can have, the reading of
- * its sheet, the writing of its map and a report of a day with two such routes, without waits and with them. Every thread must come to the same answer,
- * which is known. */
+ * its sheet, the writing of its map and a report of a day with two such routes, without waits and with them. Every thread must come to the same
+ * answer, which is known. */
 #define _DEFAULT_SOURCE
 #include <pthread.h>
 #include <string.h>

@@ -51,8 +51,7 @@ module _ (input : List ℕ) {map : ℕ} (is : map ≡ length (mapIn input)) wher
           few = few;
           map-there = ap (take map) (put ∙ sets-front (take map input) old whole) ∙ take-at (take map input) _ map front-length ∙ front-is;
           room = rw (put, length-sets) room;
-          no-routes = blank .no-routes;
-          no-costs = blank .no-costs;
+          blank = blank;
         }
 
 -- ---- Refused

@@ -144,8 +144,8 @@ module _ {input : List ℕ} {map : ℕ} {buffer₀ routes₀ costs₀ : List ℕ
         work-is = refl;
         sheet-is = refl;
         day-is = none ∙ sym figures-none;
-        routes-are = can .no-routes ∙ sym routes-none;
-        costs-are = can .no-costs ∙ sym costs-none;
+        routes-are = can .blank .no-routes ∙ sym routes-none;
+        costs-are = can .blank .no-costs ∙ sym costs-none;
         map-there = rw (← can .map-bytes) (can .map-there);
         room = can .room;
       }

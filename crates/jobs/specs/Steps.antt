@@ -133,14 +133,19 @@ leftAt input at = let f = frame (drop at input) in entriesOf (mapIn input) (f .r
 abbrev pub resultsIn : (input work sheet : List ℕ) → List Result
 resultsIn input work sheet = results (entries input) work sheet
 
+-- no route ends anywhere
+pub record Blank (routes costs : List ℕ) : Type 0 where
+  pub no-routes : routes ≡ replicate maxPlaces 0
+  pub no-costs : costs ≡ replicate maxPlaces 0
+
+-- the map is in the buffer, and nothing has been run
 pub record Startable (input : List ℕ) (map : ℕ) (buffer routes costs : List ℕ) : Type 0 where
   pub map-bytes : map ≡ length (mapIn input)
   pub short : length input ≤ maxInput
   pub few : length (entries input) ≤ maxEntries
   pub map-there : take map buffer ≡ mapIn input
   pub room : length buffer ≡ maxInput
-  pub no-routes : routes ≡ replicate maxPlaces 0
-  pub no-costs : costs ≡ replicate maxPlaces 0
+  pub blank : Blank routes costs
 
 -- where the entries before byte `at` have been run
 pub record Underway (input work₀ sheet₀ : List ℕ) (at : ℕ) (d : Day) (buffer work sheet routes costs : List ℕ) : Type 0 where
@@ -164,10 +169,6 @@ pub record AllRun (input work₀ sheet₀ : List ℕ) (d : Day) (work sheet rout
   pub costs-are : costs ≡ costsBy (arrivals (resultsIn input work₀ sheet₀))
 
 -- ---- The report as plain numbers
-
-pub record Blank (routes costs : List ℕ) : Type 0 where
-  pub no-routes : routes ≡ replicate maxPlaces 0
-  pub no-costs : costs ≡ replicate maxPlaces 0
 
 -- With these numbers put into it, any tally of as many records makes the report whole.
 pub record Reckoned (input work₀ sheet₀ : List ℕ) (records : ℕ) (r : Reckoning) (work sheet routes costs : List ℕ) : Type 0 where
