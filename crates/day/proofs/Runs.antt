@@ -1,8 +1,8 @@
 -- Days, computed from the definitions: jobs of every kind, maps that are refused, broken tails, days without a job, and what is too long or too short by
 -- one.
 use mathlib.Core.Path.{_≡_, refl}
-use mathlib.Core.Bool.{Bool, true, false, cond, _&&_}
-use mathlib.Core.List.{List, [], _∷_, _++_, flatMap}
+use mathlib.Core.Bool.{cond}
+use mathlib.Core.List.{List, [], _∷_, _++_, map, flatMap}
 use Prim.Native.Nat.{ℕ, zero, suc}
 use lib.Dec.{eqb}
 use lib.ListN.{replicate}
@@ -101,28 +101,22 @@ occurred n (suc c ∷ cs) = n ∷ suc c ∷ occurred (suc n) cs
 reached : Tally → List ℕ
 reached t = cond (eqb (t .routes) 0) [] (t .goal ∷ t .routes ∷ t .cost ∷ [])
 
-same : List ℕ → List ℕ → Bool
-same [] [] = true
-same [] (y ∷ ys) = false
-same (x ∷ xs) [] = false
-same (x ∷ xs) (y ∷ ys) = eqb x y && same xs ys
-
--- what is lent holds sevens before the call; of the tally the first six records are looked at
-agrees : Run → Bool
-agrees r =
+-- How a run ends, and the lists that it has. What is lent holds sevens before the call; of the tally the first six records are looked at.
+shown : Run → List (List ℕ)
+shown r =
     let work : List ℕ = replicate (r .words) 7 in
     let sheet : List ℕ = replicate (r .bytes) 7 in
     let d = report (r .input) work sheet (replicate (r .records) (tallyWith 7 7 7)) .day in
     let xs = cond (eqb (r .ended) 0) (arrivals (results (entries (r .input)) work sheet)) [] in
-    eqb (statusNumber (d .status)) (r .ended)
-    && (same (occurred 0 (d .counts)) (r .counts)
-    && (same (d .cost ∷ d .largest ∷ d .expansions ∷ []) (r .totals)
-    && same (flatMap (λ g. reached (tallyOf xs g)) (below 6)) (r .goals)))
+    (statusNumber (d .status) ∷ [])
+    ∷ occurred 0 (d .counts)
+    ∷ (d .cost ∷ d .largest ∷ d .expansions ∷ [])
+    ∷ flatMap (λ g. reached (tallyOf xs g)) (below 6)
+    ∷ []
 
-all : List Run → Bool
-all [] = true
-all (r ∷ rs) = agrees r && all rs
+wanted : Run → List (List ℕ)
+wanted r = (r .ended ∷ []) ∷ r .counts ∷ r .totals ∷ r .goals ∷ []
 
-runs-agree : all runs ≡ true
-unfolding opened flatMap statusNumber run none runs occurred reached same agrees all
+runs-agree : map shown runs ≡ map wanted runs
+unfolding opened flatMap statusNumber run none runs occurred reached shown wanted
 runs-agree = refl
