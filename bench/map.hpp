@@ -5,17 +5,17 @@
 
 #include "plain.hpp"
 
-// a lane; one with a class is written with it and its length
+// a lane; one with a class is written with it and its length, which goes by the map's factors
 struct Arc {
     uint32_t from, to, cost, lane_class = plain::none;
 };
 
 // the classes in which a lane of some length has this cost
-inline std::vector<uint32_t> classes(uint32_t cost)
+inline std::vector<uint32_t> classes(uint32_t cost, const plain::Factors &factors)
 {
     std::vector<uint32_t> all;
-    for (uint32_t c = 0; c < plain::factors.size(); c++)
-        if (cost % plain::factors[c] == 0 && cost / plain::factors[c] <= 4095)
+    for (uint32_t c = 0; c < factors.size(); c++)
+        if (cost % factors[c] == 0 && cost / factors[c] <= 4095)
             all.push_back(c);
     return all;
 }
@@ -25,6 +25,8 @@ struct Map {
     uint32_t places = 0, start = 0, allowance = 0;
     std::vector<uint32_t> goals, estimate, wait; // an estimate or a wait of none: the place has no record
     std::vector<Arc> arcs;
+    plain::Factors factors = plain::fixed_factors;
+    size_t factors_at = plain::none; // their record stands behind so many arcs; none: it has no record
 
     uint32_t wait_at(uint32_t v) const { return wait[v] == plain::none ? 0 : wait[v]; }
     // of the lane, with the wait of the place that it leaves
@@ -44,11 +46,11 @@ inline void put_front(std::vector<uint8_t> &out, uint32_t length, uint32_t kind)
     put(out, kind, 2);
 }
 
-inline void put_arc(std::vector<uint8_t> &out, const Arc &a)
+inline void put_arc(std::vector<uint8_t> &out, const Arc &a, const plain::Factors &factors)
 {
     bool flat = a.lane_class == plain::none;
     put_front(out, flat ? 6 : 8, flat ? 2 : 5);
-    for (uint32_t x : {a.from, a.to, flat ? a.cost : a.cost / plain::factors[a.lane_class]})
+    for (uint32_t x : {a.from, a.to, flat ? a.cost : a.cost / factors[a.lane_class]})
         put(out, x, 2);
     if (!flat)
         put(out, a.lane_class, 2);
@@ -68,16 +70,28 @@ inline void put_wait(std::vector<uint8_t> &out, uint32_t place, uint32_t wait)
     put(out, wait, 2);
 }
 
-// the waits by place, evenly among the arcs
+inline void put_factors(std::vector<uint8_t> &out, const plain::Factors &factors)
+{
+    put_front(out, 16, 7);
+    for (uint32_t factor : factors)
+        put(out, factor, 2);
+}
+
+// the waits by place, evenly among the arcs, and the factors at their place
 inline void put_arcs_and_waits(std::vector<uint8_t> &out, const Map &m)
 {
     size_t next = 0;
     for (uint32_t v = 0; v < m.places; v++) {
         if (m.wait[v] != plain::none)
             put_wait(out, v, m.wait[v]);
-        for (; next < m.arcs.size() * (v + 1) / m.places; next++)
-            put_arc(out, m.arcs[next]);
+        for (; next < m.arcs.size() * (v + 1) / m.places; next++) {
+            if (next == m.factors_at)
+                put_factors(out, m.factors);
+            put_arc(out, m.arcs[next], m.factors);
+        }
     }
+    if (m.factors_at == m.arcs.size())
+        put_factors(out, m.factors);
 }
 
 inline std::vector<uint8_t> input_of(const Map &m)

@@ -94,8 +94,22 @@ inline Map classed(Map m)
     Chance chance;
     m.name = "classes";
     for (Arc &a : m.arcs)
-        if (std::vector<uint32_t> all = classes(a.cost); chance.below(2) == 0)
+        if (std::vector<uint32_t> all = classes(a.cost, m.factors); chance.below(2) == 0)
             a.lane_class = all[chance.below(static_cast<uint32_t>(all.size()))];
+    return m;
+}
+
+// the same lanes under factors of the map's own, which stand behind half of them, and estimates that go by these
+inline Map factored(Map m)
+{
+    const plain::Factors before = m.factors;
+    m.name = "factors";
+    m.factors = {1, 1, 2, 2, 3, 5, 9, 16};
+    m.factors_at = m.arcs.size() / 2;
+    for (Arc &a : m.arcs)
+        if (a.lane_class != none)
+            a.cost = a.cost / before[a.lane_class] * m.factors[a.lane_class];
+    set_estimates(m);
     return m;
 }
 
@@ -210,7 +224,7 @@ inline std::vector<Map> all()
     return {
         grid(16, false, 60), grid(23, false, 60), grid(32, false, 60), grid(45, false, 60), grid(64, false, 60),
         grid(64, false, 0), grid(64, false, 95), grid(64, true, 0), grid(64, true, 60), grid(64, true, 95),
-        classed(grid(64, false, 60)), doored(grid(64, false, 60)),
+        classed(grid(64, false, 60)), factored(classed(grid(64, false, 60))), doored(grid(64, false, 60)),
         random(4096, 0), random(4096, 60), random(4096, 100), random(2000, 95), // the third has all arcs and estimates that a map can have
         star(4096), star(300), hubs(), chain(), martelli(16), mero(1000), far_goal(16),
     };

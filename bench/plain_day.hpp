@@ -10,10 +10,10 @@ constexpr uint32_t too_long = 255;
 
 struct Figures {
     uint64_t cost = 0, largest = 0, expansions = 0;
-    std::array<uint64_t, 22> counts{};
-    std::array<uint64_t, 25> numbers() const
+    std::array<uint64_t, 23> counts{};
+    std::array<uint64_t, 26> numbers() const
     {
-        std::array<uint64_t, 25> all{cost, largest, expansions};
+        std::array<uint64_t, 26> all{cost, largest, expansions};
         std::copy(counts.begin(), counts.end(), all.begin() + 3);
         return all;
     }

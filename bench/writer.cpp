@@ -15,7 +15,7 @@ bool before(const Arc &a, const Arc &b)
 {
     auto order = [](const Arc &x) {
         bool measured = x.lane_class != plain::none;
-        return std::tuple(x.from, x.to, x.cost, measured, measured ? x.cost / plain::factors[x.lane_class] : 0);
+        return std::tuple(x.from, x.to, x.cost, measured, measured ? x.cost / plain::fixed_factors[x.lane_class] : 0);
     };
     return order(a) < order(b);
 }

@@ -27,7 +27,7 @@ uint32_t r3_sheet(const uint8_t *sheet, size_t length, uint32_t question);
 /* librouter.a: routes a job. The input is read; work and sheet are lent to the call; as many of the answer's seven numbers as
  * there is room for are stored in answer: number, cost, limit, floor, expansions, queries, sheet bytes. The number comes back.
  * 0: the route sheet is at the front of the sheet area
- * 1 to 15, 20 and 21: refused, and neither area has changed
+ * 1 to 15 and 20 to 22: refused, and neither area has changed
  * 16: the allowance is spent, and no route costs less than floor where no estimate overstates; the sheet area has not changed. The same
  *     input with a larger allowance gives the answer, the same for all that are enough, or 16 again with a floor no lower
  * 17: no goal can be reached; the no-route sheet is at the front of the sheet area
@@ -41,11 +41,11 @@ uint32_t r3_route(const uint8_t *input, size_t length, uint32_t *work, size_t wo
                   uint32_t *answer, size_t room);
 
 /* libmap_writer.a: writes the map and the job of an input anew: the head, the arcs by from, to, cost, kind and what else they say,
- * the estimates other than 0 by place, the waits other than 0 by place, then the job. Inputs that say the same are written alike. The
- * input is read; work and output are lent to the call; the answer's seven numbers are: number, five zeros, bytes written. The number
- * comes back.
+ * the estimates other than 0 by place, the waits other than 0 by place, the factors where they are not the fixed ones, then the job.
+ * Inputs that say the same are written alike. The input is read; work and output are lent to the call; the answer's seven numbers are:
+ * number, five zeros, bytes written. The number comes back.
  * 0: the map is at the front of the output area
- * 1 to 15, 20 and 21: refused as by r3_route, and neither area has changed; but 15 is for an output area shorter than the input
+ * 1 to 15 and 20 to 22: refused as by r3_route, and neither area has changed; but 15 is for an output area shorter than the input
  * After 0 the first R3_WORDS_OF(N, M) words of work are 0. No other word or byte changes. */
 uint32_t r3_write_map(const uint8_t *input, size_t length, uint32_t *work, size_t words, uint8_t *output, size_t bytes,
                       uint32_t *answer, size_t room);
@@ -60,10 +60,10 @@ uint32_t r3_write_map(const uint8_t *input, size_t length, uint32_t *work, size_
  * R3_TOO_LONG: the input has more than 65,536 bytes, or more than 1,000 records after the map, a broken tail being one. Neither area and
  *    no record has changed
  * As many figures as there is room for are stored: the total cost of all routes, the largest, the total of the expansions of jobs with a
- * route and with no route, and then how many jobs came to number 0, 1 and so on up to 21. All are 0 where no report was made. */
+ * route and with no route, and then how many jobs came to number 0, 1 and so on up to 22. All are 0 where no report was made. */
 #define R3_TOO_LONG 255
 #define R3_RECORDS 4096
-#define R3_FIGURES 25
+#define R3_FIGURES 26
 struct r3_tally {
     uint32_t goal, routes;
     uint64_t cost;

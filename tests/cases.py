@@ -8,8 +8,8 @@ crates/cases/stdout has the number of cases in each group.
 
 A case is 12 numbers of 4 bytes, little-endian: its group, bytes of the input, words lent, bytes lent, the seven numbers of the answer, and how many
 work words are 0 after the call; then the input; then the sheet. The answers are those of tests/reference.py. They must be what document 01 says of
-its own runs, and what was found by hand for some maps with waits; number and cost must be what the Boost Graph Library says of random maps; and where
-the number of places decides between cheapest routes, the route must be the first of all that there are. Otherwise nothing is made."""
+its own runs, and what was found by hand for some maps with waits or with factors; number and cost must be what the Boost Graph Library says of random
+maps; and where the number of places decides between cheapest routes, the route must be the first of all that there are. Otherwise nothing is made."""
 import os
 import random
 import struct
@@ -19,8 +19,9 @@ import sys
 from by_hand import lines, runs
 from doors import doors
 from edges import ends_of_fields, ends_of_records, refused
+from floors import floors
 from inputs import Graph, any_estimates, as_measured, classes, damaged, records_before_job, some_graph, some_map
-from reference import ARCS, COST, ESTIMATE, GOALS, PLACES, Problem, arc, cleared, estimate, head, job, route, u16, wait
+from reference import ARCS, COST, ESTIMATE, GOALS, PLACES, Problem, arc, cleared, estimate, factors, head, job, route, u16, wait
 from ties import along_a_line, ties
 
 DOCUMENT, REFUSALS, ENDS, CONSISTENT, GAPS, OVERSTATING, DAMAGED, FEWEST = range(8)
@@ -57,17 +58,17 @@ def refusals():
 
 
 def whole_graph(rnd):
-    """as many places, arcs, goals and waits as there may be, the goals at the far end"""
+    """as many places, arcs, goals and waits as there may be, the goals at the far end, and factors"""
     arcs = [(u, min(max(u + rnd.randint(-20, 40), 0), PLACES - 1), rnd.randint(1, 9)) for u in list(range(PLACES)) * (ARCS // PLACES)]
-    return Graph(PLACES, arcs, list(range(PLACES - GOALS, PLACES)), {v: rnd.randint(0, 9) for v in range(PLACES)})
+    return Graph(PLACES, arcs, list(range(PLACES - GOALS, PLACES)), {v: rnd.randint(0, 9) for v in range(PLACES)}, (1, 1, 2, 3, 4, 5, 6, 7))
 
 
 def largest(graph, far):
     """the longest input that is not refused; one with an arc too many; and the longest route, with the highest cost and the highest limit"""
-    arcs = b''.join(as_measured(u, v, lane, classes(lane)[-1]) for u, v, lane in graph.arcs)
+    arcs = b''.join(as_measured(u, v, lane, classes(lane, graph.own)[-1], graph.own) for u, v, lane in graph.arcs)
     waits = b''.join(wait(*w) for w in graph.waits.items())
     estimates = b''.join(estimate(v, (d or 0) * 6 // 10) for v, d in enumerate(far))
-    data = head(PLACES, ARCS) + arcs + waits + estimates + job(20, 236 * PLACES, graph.goals)
+    data = head(PLACES, ARCS) + arcs + waits + estimates + factors(graph.own) + job(20, 236 * PLACES, graph.goals)
     agree(data, far[20], False)
     chain = b''.join(arc(v, v + 1, COST - v % 5) + wait(v, v % 5) for v in range(PLACES - 1)) + estimate(PLACES - 2, ESTIMATE)
     return data, head(PLACES, ARCS + 1) + arcs + arc(0, 0, 1) + job(0, 9, [1]), head(PLACES, PLACES - 1) + chain + job(0, 236 * PLACES, [PLACES - 1])
@@ -158,6 +159,16 @@ def waited(rnd, graphs):
         yield case(CONSISTENT, data, *needs(data))
 
 
+def factored(graphs):
+    """the maps with factors by hand, each with its graph by Boost"""
+    for one, (_, far) in zip(floors(), graphs, strict=True):
+        agree(one.data, far[0], False)
+        given = one._replace(cost=far[0], places=first_routes(one.data)[0])
+        if given != one:
+            sys.exit(f'not as by hand: {one}, {given}')
+        yield case(CONSISTENT, one.data, *needs(one.data))
+
+
 def counted(rnd, count):
     """the maps by hand, and so many random ones whose first route would be another if places were not counted"""
     for tie in ties():
@@ -179,13 +190,15 @@ def counted(rnd, count):
 def all_cases(program):
     rnd = random.Random(1)
     sizes = [200] * 4 + [rnd.randint(2, rnd.randint(2, 60)) for _ in range(496)]
-    by_hand = [door.graph for door in doors()]
-    whole, *graphs = least(program, [whole_graph(rnd), *by_hand, *(some_graph(rnd, places) for places in sizes)])
+    waits, tables = [door.graph for door in doors()], [one.graph for one in floors()]
+    whole, *graphs = least(program, [whole_graph(rnd), *waits, *tables, *(some_graph(rnd, places) for places in sizes)])
+    by_hand = len(waits) + len(tables)
     yield from documented()
     yield from refusals()
     yield from (case(ENDS, data, *needs(data)) for data in (*ends_of_fields(), *ends_of_records(), *largest(*whole)))
-    yield from waited(rnd, graphs[:len(by_hand)])
-    yield from (some_case(rnd, *graph) for graph in graphs[len(by_hand):])
+    yield from waited(rnd, graphs[:len(waits)])
+    yield from factored(graphs[len(waits):by_hand])
+    yield from (some_case(rnd, *graph) for graph in graphs[by_hand:])
     yield from (some_damage(rnd) for _ in range(80))
     yield from counted(rnd, 100)
 

@@ -142,7 +142,7 @@ class Test {
             lent.room = below(R3_FIGURES + 3);
         bool same = comparison_.same(input.data(), input.size(), lent);
         ended_.count(comparison_.ended);
-        for (uint32_t n = 0; n < 22; n++)
+        for (uint32_t n = 0; n < comparison_.reporter.figures.counts.size(); n++)
             if (comparison_.reporter.figures.counts[n] != 0)
                 numbers_.count(n);
         return same;
@@ -195,7 +195,7 @@ class Test {
     Records day_;
     DayComparison comparison_;
     Tally<uint32_t> ended_{"days: ended", {0, 15, R3_TOO_LONG}};
-    Tally<uint32_t> numbers_{"days: with answers", {0, 1, 2, 3, 4, 5, 6, 7, 8, 9, 10, 11, 12, 13, 14, 15, 16, 17, 20, 21}};
+    Tally<uint32_t> numbers_{"days: with answers", {0, 1, 2, 3, 4, 5, 6, 7, 8, 9, 10, 11, 12, 13, 14, 15, 16, 17, 20, 21, 22}};
 };
 
 } // namespace

@@ -1,7 +1,8 @@
 """Days for the tests of program `report`: some by hand with what is printed of them, and random ones, good and damaged."""
+from floors import ONES, SIXTEENS
 from inputs import any_estimates, damaged, records_before_job, some_graph
 from listing import records
-from reference import COST, arc, head, job, record, route
+from reference import COST, FACTORS, arc, factors, head, job, measured, record, route
 
 # jobs of every kind: routes to two goals, one at cost 0, two to a goal that is not named first; no route; the allowance spent; refused by 13, 12, 11 and 3;
 # records that are no jobs, and a broken tail
@@ -65,8 +66,8 @@ def by_hand():
     yield small + arc(0, 1, 0) + 3 * goal, '5 3\n0 0 0\n'
     yield small + 1000 * goal, '0 1000\n3000 3 2000\n1 1000 3000\n'
     yield small + 999 * goal + b'\0', '0 999\n1 1\n2997 3 1998\n1 999 2997\n'
-    yield small + 999 * goal + record(7, b''), '0 999\n10 1\n2997 3 1998\n1 999 2997\n'
-    for last in (goal, record(7, b''), b'\0'):
+    yield small + 999 * goal + record(8, b''), '0 999\n10 1\n2997 3 1998\n1 999 2997\n'
+    for last in (goal, record(8, b''), b'\0'):
         yield small + 1000 * goal + last, 'too long\n'
     yield small + record(0, bytes(65536 - len(small) - 4 - len(goal))) + goal, '2 1\n0 0 0\n'
     yield small + record(0, bytes(65536 - len(small) - 3 - len(goal))) + goal, 'too long\n'
@@ -74,6 +75,14 @@ def by_hand():
     assert cost == 909 * COST
     yield chain(910, COST, 1000), f'0 1000\n{1000 * cost} {cost} {1000 * expansions}\n909 1000 {1000 * cost}\n'  # more than 32 bits hold
     yield head(1025, 0) + job(0, 0, [0]), '14 1\n0 0 0\n'
+    # factors before the lane and behind it; behind a job they are no part of the map, whatever they say; and some that are refused
+    lane = measured(0, 1, 3, 6)
+    for own, cost in ((SIXTEENS, 48), (ONES, 3), (FACTORS, 36)):
+        for middle in (factors(own) + lane, lane + factors(own)):
+            yield head(2, 1) + middle + 2 * goal, f'0 2\n{2 * cost} {cost} 4\n1 2 {2 * cost}\n'
+    yield head(2, 1) + lane + goal + factors(ONES) + goal + factors((0, *ONES[1:])) + goal, '0 3\n10 2\n108 36 6\n1 3 108\n'
+    for tables in ([ONES] * 2, [(*ONES[1:], 17)], [(2, *ONES[1:])]):
+        yield head(2, 1) + lane + b''.join(map(factors, tables)) + 3 * goal + b'\0', '1 1\n22 3\n0 0 0\n'
 
 
 def some_job(rnd, graph):

@@ -27,7 +27,7 @@ void guide(const Drawn &drawn, const Bytes &written)
 extern "C" int LLVMFuzzerTestOneInput(const uint8_t *data, size_t size)
 {
     static Comparison<Writing> comparison;
-    static LastTally tally("answers", {0, 1, 2, 3, 4, 5, 6, 7, 8, 9, 20, 21, 10, 11, 12, 13, 14, 15});
+    static LastTally tally("answers", {0, 1, 2, 3, 4, 5, 6, 7, 8, 9, 20, 22, 21, 10, 11, 12, 13, 14, 15});
     if (size < 2)
         return 0;
     Drawn drawn(data, size);

@@ -11,6 +11,7 @@ A line of a listing is one record; what follows a # is a comment.
     arc from 0 to 1 length 30 class 2
     estimate at 1 is 4
     wait at 3 is 40
+    factors 1 1 2 2 3 3 4 4             of the classes 0 to 7
     job start 0 allowance 944 goals 3   several goals: goals 3 5 9
     record 9 01 00 FF                   any other record: its kind, then its body in hex
     bytes 0A 00 04                      bytes that are no whole record, in hex
@@ -18,13 +19,14 @@ A line of a listing is one record; what follows a # is a comment.
 Every input has a listing that gives it back, a damaged one too."""
 import sys
 
-from reference import arc, estimate, fits, frame, head, is_arc, is_known, job, measured, record, u16, u32, wait
+from reference import arc, estimate, factors, fits, frame, head, is_arc, is_known, job, measured, record, u16, u32, wait
 
 FORMS = {
     'places': 'places N, or places N arcs M',
     'arc': 'arc from PLACE to PLACE cost NUMBER, or .. length NUMBER class NUMBER',
     'estimate': 'estimate at PLACE is NUMBER',
     'wait': 'wait at PLACE is NUMBER',
+    'factors': 'factors NUMBER ..., eight of them',
     'job': 'job start PLACE allowance NUMBER goals PLACE ...',
     'record': 'record KIND HEX ...',
     'bytes': 'bytes HEX ...',
@@ -64,6 +66,8 @@ def encode(words, arcs):
             return estimate(number(v, 2), number(h, 4))
         case ['wait', 'at', v, 'is', w]:
             return wait(*numbers(v, w))
+        case ['factors', _, _, _, _, _, _, _, _]:
+            return factors(numbers(*words[1:]))
         case ['job', 'start', s, 'allowance', a, 'goals', *goals]:
             return job(number(s, 2), number(a, 4), numbers(*goals))
         case ['record', kind, *body]:
@@ -92,6 +96,11 @@ def records(text):
     return bytes(data)
 
 
+def row(front, body):
+    """what the line begins with, and then all numbers"""
+    return ' '.join([front, *(str(u16(body, i)) for i in range(0, len(body), 2))])
+
+
 def decode(kind, body, arcs):
     """one record's line, in a listing of so many arc lines"""
     if not is_known(kind) or not fits(kind, body):
@@ -106,7 +115,9 @@ def decode(kind, body, arcs):
         return f'estimate at {u16(body, 0)} is {u32(body, 2)}'
     if kind == 6:
         return f'wait at {u16(body, 0)} is {u16(body, 2)}'
-    return ' '.join([f'job start {u16(body, 0)} allowance {u32(body, 2)} goals', *(str(u16(body, i)) for i in range(8, len(body), 2))])
+    if kind == 7:
+        return row('factors', body)
+    return row(f'job start {u16(body, 0)} allowance {u32(body, 2)} goals', body[8:])
 
 
 def listing(data):

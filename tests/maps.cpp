@@ -22,6 +22,7 @@ class Test {
             return "not as Boost says";
         decided_ += comparison_.arcs_decide();
         waited_ += waits();
+        factored_ += has_factor();
         const plain::Answer whole = comparison_.answer;
         for (uint32_t enough : {whole.expansions, 0xffffffffu})
             if (!call(enough) || comparison_.answer.numbers() != whole.numbers())
@@ -32,12 +33,13 @@ class Test {
         return nullptr;
     }
 
-    // prints how often each number came, how often the number of arcs decided, and how many routes have a wait; whether each number came with each
-    // kind, and the other two at all
+    // prints how often each number came, how often the number of arcs decided, and how many routes have a wait and a factor of the map's own; whether
+    // each number came with each kind, and the other three at all
     bool report() const
     {
-        bool all = decided_ != 0 && waited_ != 0;
-        std::printf("maps: %u routes would be others if arcs were not counted; on %u there is a wait\n", decided_, waited_);
+        bool all = decided_ != 0 && waited_ != 0 && factored_ != 0;
+        std::printf("maps: %u routes would be others if arcs were not counted; on %u there is a wait; %u cost otherwise by the fixed factors\n",
+                    decided_, waited_, factored_);
         for (const char *name : Maps::names) {
             std::printf("maps: %-18s", name);
             for (uint32_t number : {0u, 16u, 17u}) {
@@ -82,20 +84,26 @@ class Test {
     bool is_route() const
     {
         const uint8_t *sheet = comparison_.written;
-        uint32_t at = plain::u16(sheet + 10), cost = 0;
-        if (at != map_.start)
-            return false;
+        uint32_t last = plain::u16(sheet + comparison_.answer.bytes - 2);
+        return plain::u16(sheet + 10) == map_.start && along_sheet([&](const Arc &a) { return map_.cost(a); }) == comparison_.answer.cost &&
+               std::binary_search(map_.goals.begin(), map_.goals.end(), last);
+    }
+
+    // the least costs from place to place of the sheet, summed; none where no arc leads to the next
+    template <class Cost> uint32_t along_sheet(Cost cost) const
+    {
+        const uint8_t *sheet = comparison_.written;
+        uint32_t sum = 0;
         for (uint32_t i = 12; i < comparison_.answer.bytes; i += 2) {
-            uint32_t next = plain::u16(sheet + i), least = plain::none;
+            uint32_t least = plain::none;
             for (const Arc &a : map_.arcs)
-                if (a.from == at && a.to == next)
-                    least = std::min(least, map_.cost(a));
+                if (a.from == plain::u16(sheet + i - 2) && a.to == plain::u16(sheet + i))
+                    least = std::min(least, cost(a));
             if (least == plain::none)
-                return false;
-            cost += least;
-            at = next;
+                return plain::none;
+            sum += least;
         }
-        return cost == comparison_.answer.cost && std::binary_search(map_.goals.begin(), map_.goals.end(), at);
+        return sum;
     }
 
     // whether the route leaves a place that has a wait
@@ -108,7 +116,17 @@ class Test {
         return i < last;
     }
 
-    uint32_t decided_ = 0, waited_ = 0;
+    // whether the same places would cost something else by the fixed factors
+    bool has_factor() const
+    {
+        auto cost = [&](const Arc &a) {
+            uint32_t lane = a.lane_class == plain::none ? a.cost : a.cost / map_.factors[a.lane_class] * plain::fixed_factors[a.lane_class];
+            return lane + map_.wait_at(a.from);
+        };
+        return comparison_.answer.number == 0 && map_.factors != plain::fixed_factors && along_sheet(cost) != comparison_.answer.cost;
+    }
+
+    uint32_t decided_ = 0, waited_ = 0, factored_ = 0;
     Maps maps_;
     Map map_;
     Comparison<Routing> comparison_;

@@ -23,7 +23,7 @@ class Mutator {
         else if (way < 4)
             records_.erase(i);
         else if (way < 8)
-            change(*records_.insert(i, Bytes(*j))); // one more arc, estimate or wait, like another
+            change(*records_.insert(i, Bytes(*j))); // one more arc, estimate, wait or table, like another
         else if (way < 9)
             change(records_.front());
         else if (way < 11)
@@ -56,7 +56,7 @@ class Mutator {
         if (r.size() < 6)
             return;
         uint8_t *field = &r[4 + below(r.size() / 2 - 2) * 2];
-        uint32_t places = records_[0].size() >= 6 ? plain::u16(&records_[0][4]) : 0;
+        uint32_t places = records_[0].size() >= 6 ? plain::u16(&records_[0][4]) : 0, most = is_table(r) ? plain::largest_factor + 1 : places;
         switch (below(16)) {
         case 0:
             change_bytes_(field, 2, 2);
@@ -68,8 +68,19 @@ class Mutator {
             change_kind(r);
             break;
         default:
-            plain::put16(field, below(2) == 0 ? below(places + 1) : plain::u16(field) + below(9) - 4);
+            plain::put16(field, below(2) == 0 ? below(most + 1) : plain::u16(field) + below(9) - 4);
+            if (is_table(r) && below(2) == 0)
+                put_in_order(r);
         }
+    }
+
+    // makes factors that may hold of those that there are
+    static void put_in_order(Bytes &r)
+    {
+        plain::Factors factors = factors_of(r);
+        std::sort(factors.begin(), factors.end());
+        for (size_t c = 0; c < factors.size(); c++)
+            plain::put16(&r[4 + 2 * c], std::clamp(factors[c], 1u, plain::largest_factor));
     }
 
     // gives an arc a class, or takes it away; makes a wait of an estimate, or an estimate of a wait

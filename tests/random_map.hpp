@@ -21,8 +21,12 @@ class Maps {
         m.places = places;
         m.start = below(places);
         add_goals(m, below(2) == 0 ? 1 : 1 + below(std::min(64u, 1 + places / 4)));
+        if (below(3) == 0)
+            m.factors = some_factors();
         uint32_t most = std::min(4 * places + 4, 16384u), fewer = below(most + 1), dear = dearest[below(5)];
         add_arcs(m, most - fewer / (1 + below(4)), dear);
+        if (m.factors != plain::fixed_factors || below(8) == 0)
+            m.factors_at = below(4) == 0 ? 0 : below(m.arcs.size() + 1);
         add_waits(m, dear);
         add_estimates(m, kind, dear);
         return m;
@@ -38,16 +42,26 @@ class Maps {
             if (way == 0)
                 twin.cost = 1 + below(std::min(2 * twin.cost, 65535 - m.wait_at(twin.from)));
             if (way != 1)
-                twin.lane_class = some_class(twin.cost);
+                twin.lane_class = some_class(twin.cost, m.factors);
             m.arcs.push_back(twin);
         }
     }
 
     // none for half of the arcs
-    uint32_t some_class(uint32_t cost)
+    uint32_t some_class(uint32_t cost, const plain::Factors &factors)
     {
-        std::vector<uint32_t> all = classes(cost);
+        std::vector<uint32_t> all = classes(cost, factors);
         return all.empty() || below(2) == 0 ? plain::none : all[below(all.size())];
+    }
+
+    // any that a map may have, close together in some maps
+    plain::Factors some_factors()
+    {
+        uint32_t least = 1 + below(plain::largest_factor), most = least + below(plain::largest_factor + 1 - least);
+        plain::Factors factors;
+        std::generate(factors.begin(), factors.end(), [&] { return least + below(most + 1 - least); });
+        std::sort(factors.begin(), factors.end());
+        return factors;
     }
 
     // with which the dearest arc of a place costs as much as an arc may, by place
@@ -84,12 +98,19 @@ class Maps {
             else
                 m.arcs.push_back({ring[at], ring[(at + steps) % m.places], std::max(steps, 1u), plain::none});
             if (!level)
-                m.arcs.back().cost = 1 + below(dear);
-            m.arcs.back().lane_class = some_class(m.arcs.back().cost);
+                m.arcs.back().cost = some_cost(m, dear);
+            m.arcs.back().lane_class = some_class(m.arcs.back().cost, m.factors);
         }
         auto to_goal = [&](const Arc &a) { return std::binary_search(m.goals.begin(), m.goals.end(), a.to); };
         if (below(8) == 0) // no goal can be reached, unless it is the start
             m.arcs.erase(std::remove_if(m.arcs.begin(), m.arcs.end(), to_goal), m.arcs.end());
+    }
+
+    // up to so much; half of them what a lane with a class may cost, where a factor is as small as that
+    uint32_t some_cost(const Map &m, uint32_t dear)
+    {
+        uint32_t factor = m.factors[below(m.factors.size())];
+        return below(2) == 0 || factor > dear ? 1 + below(dear) : factor * (1 + below(std::min(dear / factor, 4095u)));
     }
 
     // none in half of the maps; as long as they may be at some places

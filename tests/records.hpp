@@ -32,6 +32,20 @@ inline bool is_arc(const Bytes &r)
     return (r.size() == 10 && r[2] == 2) || (r.size() == 12 && r[2] == 5);
 }
 
+// of factors
+inline bool is_table(const Bytes &r)
+{
+    return r.size() == 20 && r[2] == 7;
+}
+
+inline plain::Factors factors_of(const Bytes &table)
+{
+    plain::Factors factors;
+    for (size_t c = 0; c < factors.size(); c++)
+        factors[c] = plain::u16(&table[4 + 2 * c]);
+    return factors;
+}
+
 // gives the head the number of arcs that there are
 inline void count_arcs(Records &records)
 {

@@ -1,16 +1,16 @@
-"""Document 01 and document 02's papers 1 to 3, 5 and 6 once more, in Python and as plainly as possible: the second source that tests hold the answers
-of the router and of the map writer and the day's report against."""
+"""Document 01 and document 02's papers 1 to 3 and 5 to 7 once more, in Python and as plainly as possible: the second source that tests hold the
+answers of the router and of the map writer and the day's report against."""
 import heapq
 
 PLACES, ARCS, COST, ESTIMATE, GOALS = 4096, 16384, 65535, 268435455, 64
-LENGTH, FACTORS = 4095, (1, 2, 3, 4, 6, 8, 12, 16)
+LENGTH, FACTOR, FACTORS = 4095, 16, (1, 2, 3, 4, 6, 8, 12, 16)
 
 # how long a body is, by its kind; a job's depends on its goals
-SIZES = {1: 4, 2: 6, 3: 6, 5: 8, 6: 4}
+SIZES = {1: 4, 2: 6, 3: 6, 5: 8, 6: 4, 7: 16}
 JOB = 4
 
 # the refusals in the order in which they are looked for
-ORDER = (*range(1, 10), 20, 21, *range(10, 16))
+ORDER = (*range(1, 10), 20, 22, 21, *range(10, 16))
 
 
 def u16(b, i):
@@ -49,6 +49,10 @@ def wait(place, value):
     return record(6, p16(place) + p16(value))
 
 
+def factors(table):
+    return record(7, b''.join(map(p16, table)))
+
+
 def job(start, allowance, goals, count=None):
     return record(JOB, p16(start) + allowance.to_bytes(4, 'little') + p16(len(goals) if count is None else count) + b''.join(map(p16, goals)))
 
@@ -83,14 +87,28 @@ def values(records, kind):
     return [(u16(b, 0), int.from_bytes(b[2:], 'little')) for k, b in records if k == kind]
 
 
-def lane_cost(kind, body):
-    return u16(body, 4) if kind == 2 else u16(body, 4) * FACTORS[u16(body, 6)]
+def tables(records):
+    """the eight factors of each record that has them"""
+    return [tuple(u16(b, i) for i in range(0, len(b), 2)) for k, b in records if k == 7]
+
+
+def table_of(records):
+    """the factors of the classes: the map's own, wherever they stand, or the fixed ones"""
+    return next(iter(tables(records)), FACTORS)
+
+
+def is_table(table):
+    return all(1 <= f <= FACTOR for f in table) and all(f <= g for f, g in zip(table, table[1:]))
+
+
+def lane_cost(kind, body, table):
+    return u16(body, 4) if kind == 2 else u16(body, 4) * table[u16(body, 6)]
 
 
 def arcs_of(records):
     """from, to and cost of each arc: its lane's, and the wait of the place that it leaves"""
-    waits = dict(values(records, 6))
-    return [(u16(b, 0), u16(b, 2), lane_cost(k, b) + waits.get(u16(b, 0), 0)) for k, b in records if is_arc(k)]
+    waits, table = dict(values(records, 6)), table_of(records)
+    return [(u16(b, 0), u16(b, 2), lane_cost(k, b, table) + waits.get(u16(b, 0), 0)) for k, b in records if is_arc(k)]
 
 
 def repeats(pairs):
@@ -125,7 +143,7 @@ def refusal(data, words, room, asked=sheet_bytes):
 
 
 def map_refusal(records):
-    """4 to 9, 20 or 21, or 0"""
+    """4 to 9 or 20 to 22, or 0"""
     kinds = [k for k, _ in records]
     if kinds[:1] != [1] or kinds.count(1) > 1:
         return 4
@@ -143,6 +161,8 @@ def map_refusal(records):
         return 9
     if any(k == 5 and not (1 <= u16(b, 4) <= LENGTH and u16(b, 6) < len(FACTORS)) for k, b in records):
         return 20
+    if len(tables(records)) > 1 or not is_table(table_of(records)):
+        return 22
     return 21 if repeats(waits) or any(cost > COST for _, _, cost in arcs_of(records)) else 0
 
 
@@ -244,10 +264,9 @@ def route(data, words, room):
             b, high = 2 * b, None
 
 
-def arc_order(lane):
+def arc_order(kind, body, table):
     """by from, to, cost, kind and the remaining fields"""
-    kind, body = lane
-    return u16(body, 0), u16(body, 2), lane_cost(kind, body), kind, [u16(body, i) for i in range(4, len(body), 2)]
+    return u16(body, 0), u16(body, 2), lane_cost(kind, body, table), kind, [u16(body, i) for i in range(4, len(body), 2)]
 
 
 def nonzero(records, kind):
@@ -261,9 +280,11 @@ def write_map(data, words, room):
     if number:
         return (number, 0, 0, 0, 0, 0, 0), b''
     (first, *middle, last), _ = frame(data)
-    arcs = sorted((r for r in middle if is_arc(r[0])), key=arc_order)
+    table = table_of(middle)
+    arcs = sorted((r for r in middle if is_arc(r[0])), key=lambda lane: arc_order(*lane, table))
     estimates, waits = [estimate(*e) for e in nonzero(middle, 3)], [wait(*w) for w in nonzero(middle, 6)]
-    out = b''.join([record(*first), *(record(*a) for a in arcs), *estimates, *waits, record(*last)])
+    own = [factors(table)] if table != FACTORS else []
+    out = b''.join([record(*first), *(record(*a) for a in arcs), *estimates, *waits, *own, record(*last)])
     return (0, 0, 0, 0, 0, 0, len(out)), out
 
 

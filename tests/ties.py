@@ -1,7 +1,7 @@
 """Maps with cheapest routes that differ in their number of places, for tests/cases.py: small ones by hand, and random ones."""
 from collections import namedtuple
 
-from inputs import Graph
+from inputs import Graph, some_factors
 from reference import arc, estimate, head, job
 
 # first: the places of the first route; uncounted: of the one that would be first if places were not counted
@@ -56,4 +56,4 @@ def along_a_line(rnd, places):
     pairs = [(u, v) for u in range(places) for v in range(places) if at[v] - at[u] in (2, 4, 6, 12)]
     arcs = [(u, v, at[v] - at[u] - waits.get(u, 0) + (rnd.random() < 0.1)) for u, v in rnd.choices(pairs, k=3 * places)]
     goals = [v for v in range(places) if at[v] == max(at)]
-    return Graph(places, arcs, goals[:2], waits), [max(at) - x for x in at]
+    return Graph(places, arcs, goals[:2], waits, some_factors(rnd)), [max(at) - x for x in at]

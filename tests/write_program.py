@@ -5,10 +5,11 @@ import os
 import random
 import sys
 
-from edges import broken
+from edges import BAD_TABLES, broken
+from floors import ONES
 from listing import records
 from program import INPUT, WORK, around_longest, chain, longest, some_inputs
-from reference import ORDER, arc, estimate, head, job, measured, wait, write_map
+from reference import FACTORS, ORDER, arc, estimate, factors, head, job, measured, wait, write_map
 from streams import ended, failing, given, report, slow, start, whole
 
 # a map by hand and what is made of it: from before to, to before cost, cost before kind, kind 2 before 5, length before class; a repeat stays, an
@@ -52,6 +53,41 @@ WRITTEN = records('''
     wait at 256 is 1
     job start 1 allowance 70800 goals 0 299''')
 
+# the same for factors of the map's own, by which lanes are in another order: class 0 at 2 a foot, 1 to 5 at 3, 6 and 7 at 16; of lanes that cost the
+# same and are as long, those of the lower class stand first
+FACTORED = records('''
+    places 3
+    arc from 0 to 1 length 6 class 7
+    arc from 0 to 1 length 6 class 6
+    arc from 0 to 1 cost 96
+    arc from 0 to 1 length 32 class 5
+    arc from 0 to 1 length 32 class 1
+    arc from 0 to 1 length 48 class 0
+    arc from 0 to 1 length 4 class 6
+    arc from 0 to 1 length 1 class 7
+    arc from 0 to 1 length 6 class 0
+    arc from 0 to 1 length 3 class 2
+    factors 2 3 3 3 3 3 16 16
+    wait at 0 is 9
+    estimate at 0 is 1
+    job start 0 allowance 708 goals 1''')
+FACTORED_WRITTEN = records('''
+    places 3
+    arc from 0 to 1 length 3 class 2
+    arc from 0 to 1 length 6 class 0
+    arc from 0 to 1 length 1 class 7
+    arc from 0 to 1 length 4 class 6
+    arc from 0 to 1 cost 96
+    arc from 0 to 1 length 6 class 6
+    arc from 0 to 1 length 6 class 7
+    arc from 0 to 1 length 32 class 1
+    arc from 0 to 1 length 32 class 5
+    arc from 0 to 1 length 48 class 0
+    estimate at 0 is 1
+    wait at 0 is 9
+    factors 2 3 3 3 3 3 16 16
+    job start 0 allowance 708 goals 1''')
+
 
 def printed(data):
     """standard output and standard error"""
@@ -65,6 +101,12 @@ def by_hand():
     full, over = head(1024, 0) + job(0, 0, [0]), head(1024, 1) + measured(0, 0, 1, 0) + job(0, 0, [0])
     yield JUMBLED, (WRITTEN, b'')
     yield WRITTEN, (WRITTEN, b'')
+    yield FACTORED, (FACTORED_WRITTEN, b'')
+    yield FACTORED_WRITTEN, (FACTORED_WRITTEN, b'')
+    # the fixed factors go, wherever they stand; others stay, though no lane has a class
+    one, end = measured(0, 1, 9, 7), job(0, 9, [1])
+    yield from ((head(2, 1) + middle + end, (head(2, 1) + one + end, b'')) for middle in (factors(FACTORS) + one, one + factors(FACTORS)))
+    yield head(2, 1) + factors(ONES) + arc(0, 1, 9) + end, (head(2, 1) + arc(0, 1, 9) + factors(ONES) + end, b'')
     yield full, (full, b'')  # takes all 16,384 words
     yield over, (b'', b'14\n')
     yield head(2, 0) + estimate(0, 0) + wait(1, 0) + estimate(1, 0) + job(1, 0, [0]), (head(2, 0) + job(1, 0, [0]), b'')
@@ -73,15 +115,16 @@ def by_hand():
 
 
 def refused():
-    """an input for every refusal that may come, but for 14"""
+    """an input for every refusal that may come, but for 14; for 22 one for each condition"""
     yield from (broken([number]) for number in ORDER if number not in (14, 15))
+    yield from (broken([22], tables=tables) for tables in BAD_TABLES)
 
 
 def many_records(rnd):
-    """estimates and waits, most of them 0, and arcs of both kinds, mixed"""
+    """estimates and waits, most of them 0, arcs of both kinds and factors, mixed"""
     values = [value(v, rnd.choice([0, 0, v])) for v in reversed(range(1, 819)) for value in (estimate, wait)]
     arcs = [rnd.choice([arc(v % 819, v % 7, 1 + v % 99), measured(v % 819, v % 7, 1 + v % 9, v % 8)]) for v in range(1600)]
-    mixed = values + arcs
+    mixed = values + arcs + [factors((1, 1, 2, 2, 2, 9, 9, 16))]
     rnd.shuffle(mixed)
     return head(819, len(arcs)) + b''.join(mixed) + job(0, 9, [0])
 

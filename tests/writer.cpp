@@ -14,16 +14,25 @@ namespace {
 
 constexpr uint32_t largest_estimate = 268435455;
 
-Arc arc_of(const Bytes &r)
+using plain::Factors;
+
+Arc arc_of(const Bytes &r, const Factors &factors)
 {
     uint32_t last = plain::u16(&r[8]), lane_class = r[2] == 2 ? plain::none : plain::u16(&r[10]);
-    return {plain::u16(&r[4]), plain::u16(&r[6]), lane_class == plain::none ? last : last * plain::factors[lane_class], lane_class};
+    return {plain::u16(&r[4]), plain::u16(&r[6]), lane_class == plain::none ? last : last * factors[lane_class], lane_class};
 }
 
-Bytes record_of(const Arc &a)
+Bytes record_of(const Arc &a, const Factors &factors)
 {
     Bytes r;
-    put_arc(r, a);
+    put_arc(r, a, factors);
+    return r;
+}
+
+Bytes record_of(const Factors &factors)
+{
+    Bytes r;
+    put_factors(r, factors);
     return r;
 }
 
@@ -43,6 +52,12 @@ bool is_zero(const Bytes &r)
     return has_value(r) && value_of(r) == 0;
 }
 
+// says what holds without it
+bool is_idle(const Bytes &r)
+{
+    return is_zero(r) || (is_table(r) && factors_of(r) == plain::fixed_factors);
+}
+
 Bytes record_of(uint8_t kind, uint32_t place, uint32_t value)
 {
     Bytes r;
@@ -50,28 +65,28 @@ Bytes record_of(uint8_t kind, uint32_t place, uint32_t value)
     return r;
 }
 
-// by from, to, cost, kind and the remaining fields
-bool arc_before(const Bytes &r, const Bytes &s)
+// by from, to, cost under these factors, kind and the remaining fields
+bool is_in_order(Records::iterator first, Records::iterator last, const Factors &factors)
 {
-    auto order = [](const Bytes &x) {
-        Arc a = arc_of(x);
+    auto order = [&](const Bytes &x) {
+        Arc a = arc_of(x, factors);
         return std::tuple(a.from, a.to, a.cost, x[2], plain::u16(&x[8]), a.lane_class);
     };
-    return order(r) < order(s);
+    return std::is_sorted(first, last, [&](const Bytes &r, const Bytes &s) { return order(r) < order(s); });
 }
 
-// head, arcs in order, estimates by place and none twice, waits alike, job: the same records, but for estimates and waits of 0
-bool is_written_form(Records records, Records written)
+// head, arcs in order, estimates by place and none twice, waits alike, factors, job: the same records, but for those that say what holds without them
+bool is_written_form(Records records, Records written, const Factors &factors)
 {
     if (records.size() < 2 || written.size() < 2 || written.front() != records.front() || written.back() != records.back())
         return false;
-    auto last = written.end() - 1, arcs = std::find_if_not(written.begin() + 1, last, is_arc);
+    auto last = written.end() - 1, arcs = std::find_if_not(written.begin() + 1, last, is_arc), values = std::find_if_not(arcs, last, has_value);
     auto kind_and_place = [](const Bytes &r) { return std::tuple(r[2], plain::u16(&r[4])); };
     auto not_rising = [&](const Bytes &r, const Bytes &s) { return kind_and_place(r) >= kind_and_place(s); };
-    if (!std::is_sorted(written.begin() + 1, arcs, arc_before) || !std::all_of(arcs, last, has_value) ||
-        std::adjacent_find(arcs, last, not_rising) != last)
+    if (!is_in_order(written.begin() + 1, arcs, factors) || std::adjacent_find(arcs, values, not_rising) != values ||
+        !std::all_of(values, last, is_table))
         return false;
-    records.erase(std::remove_if(records.begin() + 1, records.end() - 1, is_zero), records.end() - 1);
+    records.erase(std::remove_if(records.begin() + 1, records.end() - 1, is_idle), records.end() - 1);
     std::sort(records.begin() + 1, records.end() - 1);
     std::sort(written.begin() + 1, written.end() - 1);
     return records == written;
@@ -89,7 +104,7 @@ class Test {
         Bytes written = written_from(records_);
         if (written.empty())
             return "not accepted, or not as by hand";
-        if (!is_written_form(records_, split(written.data(), written.size())))
+        if (!is_written_form(records_, split(written.data(), written.size()), map_.factors))
             return "not in order, or not the same records";
         if (!short_areas())
             return "not refused with too little lent";
@@ -250,16 +265,30 @@ class Test {
         return true;
     }
 
+    bool toggle_fixed(Records &records)
+    {
+        auto at = std::find_if(records.begin(), records.end(), is_table);
+        if (at != records.end() && !is_idle(*at))
+            return false;
+        if (at != records.end())
+            records.erase(at);
+        else
+            records.insert(somewhere(records), record_of(plain::fixed_factors));
+        return true;
+    }
+
     bool change_lane(Records &records)
     {
         auto at = some_arc(records);
         if (at == records.end())
             return false;
-        Bytes before = *at;
-        do
-            *at = record_of(another(arc_of(before)));
-        while (*at == before || map_.cost(arc_of(*at)) > 65535);
-        return true;
+        const Bytes before = *at;
+        for (int tries = 0; tries < 20; tries++) { // with one place and a long wait there may be no other
+            *at = record_of(another(arc_of(before, map_.factors)), map_.factors);
+            if (*at != before && map_.cost(arc_of(*at, map_.factors)) <= 65535)
+                return true;
+        }
+        return false;
     }
 
     bool drop_lane(Records &records)
@@ -309,6 +338,19 @@ class Test {
         return true;
     }
 
+    // lanes keep what their records say
+    bool change_factors(Records &records)
+    {
+        Factors now = below(4) == 0 ? plain::fixed_factors : maps_.some_factors();
+        auto dear = [&](const Bytes &r) { return is_arc(r) && map_.cost(arc_of(r, now)) > 65535; };
+        if (now == map_.factors || std::any_of(records.begin(), records.end(), dear))
+            return false;
+        records.erase(std::remove_if(records.begin(), records.end(), is_table), records.end());
+        if (now != plain::fixed_factors || below(2) == 0)
+            records.insert(somewhere(records), record_of(now));
+        return true;
+    }
+
     bool add_place(Records &records)
     {
         if (map_.places == 4096)
@@ -346,10 +388,10 @@ class Test {
             break;
         case 2:
             a.cost = std::min(1 + below(std::min(a.cost + 2, 65535u)), 65535u);
-            a.lane_class = maps_.some_class(a.cost);
+            a.lane_class = maps_.some_class(a.cost, map_.factors);
             break;
         default: // at the same cost
-            a.lane_class = maps_.some_class(a.cost);
+            a.lane_class = maps_.some_class(a.cost, map_.factors);
         }
         return a;
     }
@@ -374,7 +416,7 @@ class Test {
     Comparison<Writing> comparison_;
     Area<uint8_t> sheet_{R3_BYTES + 1};
     Area<uint32_t> work_{R3_WORDS + 1}, answer_{7};
-    Tally<uint32_t> answers_{"writer: answers", {0, 1, 2, 3, 4, 5, 6, 7, 8, 9, 20, 21, 10, 11, 12, 13, 14, 15}};
+    Tally<uint32_t> answers_{"writer: answers", {0, 1, 2, 3, 4, 5, 6, 7, 8, 9, 20, 22, 21, 10, 11, 12, 13, 14, 15}};
     Tally<uint32_t> routes_{"writer: routes", {0, 14, 15, 16, 17}};
     Tally<std::string> made_{"writer: changes", change_names()};
 };
@@ -383,11 +425,13 @@ const std::vector<Test::Change> Test::changes = {
     {"shuffled", true, &Test::shuffle},
     {"estimate of 0 put in or left out", true, &Test::toggle_zero<3>},
     {"wait of 0 put in or left out", true, &Test::toggle_zero<6>},
+    {"fixed factors put in or left out", true, &Test::toggle_fixed},
     {"lane changed", false, &Test::change_lane},
     {"lane dropped", false, &Test::drop_lane},
     {"lane doubled", false, &Test::double_lane},
     {"estimate changed", false, &Test::change_estimate},
     {"wait changed", false, &Test::change_wait},
+    {"factors changed", false, &Test::change_factors},
     {"place added", false, &Test::add_place},
     {"job changed", false, &Test::change_job},
 };

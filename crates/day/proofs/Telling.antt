@@ -5,23 +5,17 @@ use mathlib.Core.Logic.{_⊎_, inl, inr}
 use mathlib.Core.List.{List, _∷_, append-nil}
 use Prim.Native.Nat.{ℕ, _+_, _<_, _≤_}
 use native.Mathlib.Nat.{zero-add}
-use native.Mathlib.Numerals.{add-one}
 use native.Mathlib.Omega.{arith}
 use lib.Dec.{ltb}
 use lib.ListN.{length, getD, take, set, replicate, length-set}
-use lib.Seq.{paste, paste-suc, take-all, length-take-le}
+use lib.Seq.{paste, take-all, length-take-le}
 use borrow.Author.Tests.{ltb-true, ltb-false}
 use Rattle.model.specs.Answer.{overFront}
-use Rattle.model.proofs.Lists.{both}
+use Rattle.model.proofs.Lists.{both, one-more}
 use Rattle.tally.specs.declared.Tally.{Tally}
 use Rattle.jobs.specs.declared.Day.{Day}
 use Rattle.day.specs.Host.{statusNumber, figuresOf, figuresOver, Told, ReportsFor}
 use Rattle.jobs.specs.Report.{numbers, DayResult, Reports}
-
--- one more element of a run is put, where i is its place by the code's sum
-one-more : (area : List ℕ) (from : ℕ) (new : List ℕ) (n : ℕ) {i : ℕ} {now : List ℕ} → i ≡ from + n → i < length area → n < length new
-    → now ≡ paste area from new n → set now i (getD new n 0) ≡ paste area from new (n + 1)
-one-more area from new n at inside more are = rw (at, are, add-one n) (paste-suc area from new n 0 (omega arith) more)
 
 -- ---- The list of the figures
 

@@ -1,20 +1,24 @@
 -- A report as a host in C gets it: how it ended as one number, and the figures as a list.
 use mathlib.Core.Path.{_≡_}
 use mathlib.Core.List.{List, _∷_}
-use Prim.Native.Nat.{ℕ}
+use Prim.Native.Nat.{ℕ, _+_}
 use lib.ListN.{length, take}
 use Rattle.model.specs.Answer.{overFront}
 use Rattle.tally.specs.declared.Tally.{Tally}
 use Rattle.jobs.specs.declared.Day.{Day}
 use Rattle.jobs.specs.declared.Status.{Status}
 use Rattle.jobs.specs.declared.Status.the-variants.{TooLong, ShortTally, Reported}
-use Rattle.jobs.specs.Report.{report}
+use Rattle.jobs.specs.Report.{numbers, report}
 
 -- 15 is the paper's number. It gives none to an input that is too long, which gets one that no answer has.
 unfoldable pub statusNumber : Status → ℕ
 statusNumber TooLong = 255
 statusNumber ShortTally = 15
 statusNumber Reported = 0
+
+-- how many figures there are
+abbrev pub figureCount : ℕ
+figureCount = 3 + numbers
 
 -- total cost, largest cost, total expansions, then the counts by number
 unfoldable pub figuresOf : Day → List ℕ

@@ -12,7 +12,7 @@ use Rattle.jobs.specs.declared.Day.{Day}
 use Rattle.jobs.specs.declared.Status.{Status}
 use Rattle.jobs.specs.declared.Status.the-variants.{TooLong, ShortTally, Reported}
 use Rattle.jobs.specs.Report.{DayResult, report}
-use Rattle.day.specs.Host.{statusNumber, figuresOf}
+use Rattle.day.specs.Host.{statusNumber, figureCount, figuresOf}
 use Rattle.day.specs.Calls.{DayCall, reported}
 use Rattle.day.proofs.Promises.{counts-length, Promises, promises}
 use Rattle.demands.specs.DayCalls.{ReportsDay, ExportsDay}
@@ -52,21 +52,21 @@ day-known d e status figures =
     ∙ ap (λ (x : ℕ). record { status = e .status; counts = e .counts; cost = e .cost; largest = e .largest; expansions = x }) expansions
 
 -- figures in numbers that have room for them
-figures-in : (c : DayCall) (lent : List ℕ) → 25 ≤ length lent
-    → let all = figuresOf (reported c .day) in take 25 (overFront (take (length lent) all) lent) ≡ all
+figures-in : (c : DayCall) (lent : List ℕ) → figureCount ≤ length lent
+    → let all = figuresOf (reported c .day) in take figureCount (overFront (take (length lent) all) lent) ≡ all
 unfolding overFront figuresOf
 figures-in c lent room =
     let all = figuresOf (reported c .day) in
-    let size : length all ≡ 25 = omega (arith, counts-length c) in
-    rw (take-all (length lent) all (omega arith)) (take-at all (drop (length all) lent) 25 size)
+    let size : length all ≡ figureCount = omega (arith, counts-length c) in
+    rw (take-all (length lent) all (omega arith)) (take-at all (drop (length all) lent) figureCount size)
 
 exports-keeps : KeepsTo reported ExportsDay
 exports-keeps = record {
   gives = λ c.
-      let lent : List ℕ = replicate 25 0 in
+      let lent : List ℕ = replicate figureCount 0 in
       record {
         lent = lent;
-        figures = overFront (take 25 (figuresOf (reported c .day))) lent;
+        figures = overFront (take figureCount (figuresOf (reported c .day))) lent;
         room = omega arith;
         figures-are = figures-in c lent (omega arith);
         contract = record { gives = refl; leaves-work = refl; leaves-sheet = refl; leaves-tally = refl; leaves-figures = refl };
@@ -75,7 +75,7 @@ exports-keeps = record {
       let k = g .contract in
       let status = status-known (r .day .status) (reported c .day .status) (k .gives) in
       let figures : figuresOf (r .day) ≡ figuresOf (reported c .day) =
-      sym (g .figures-are) ∙ ap (take 25) (k .leaves-figures) ∙ figures-in c (g .lent) (g .room) in
+      sym (g .figures-are) ∙ ap (take figureCount) (k .leaves-figures) ∙ figures-in c (g .lent) (g .room) in
       same-result r (reported c) (day-known (r .day) (reported c .day) status figures) (k .leaves-work) (k .leaves-sheet) (k .leaves-tally);
 }
   where

@@ -4,7 +4,7 @@ use mathlib.Core.List.{List}
 use Prim.Native.Nat.{ℕ, _≤_}
 use lib.ListN.{length, take}
 use Rattle.jobs.specs.Report.{DayResult, Reports}
-use Rattle.day.specs.Host.{statusNumber, figuresOf, ReportsFor}
+use Rattle.day.specs.Host.{statusNumber, figureCount, figuresOf, ReportsFor}
 use Rattle.day.specs.Calls.{DayCall}
 
 -- day::report
@@ -15,6 +15,6 @@ ReportsDay c r = Reports (c .input) (c .work) (c .sheet) (c .tally) (r .day) (r 
 pub record ExportsDay (c : DayCall) (r : DayResult) : Type 0 where
   pub lent : List ℕ
   pub figures : List ℕ
-  pub room : 25 ≤ length lent
-  pub figures-are : take 25 figures ≡ figuresOf (r .day)
+  pub room : figureCount ≤ length lent
+  pub figures-are : take figureCount figures ≡ figuresOf (r .day)
   pub contract : ReportsFor (c .input) (c .work) (c .sheet) (c .tally) lent (statusNumber (r .day .status)) (r .work) (r .sheet) (r .tally) figures

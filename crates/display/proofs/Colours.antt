@@ -23,7 +23,7 @@ module _ (n : ℕ) where
   amber l m = rw (ne-eqb n 0 (λ e. omega arith), lt-leb n 13 (omega arith), le-leb 1 n (omega arith), le-leb 14 n l, le-leb n 15 m)
 
   -- from 18 on the last three cases decide
-  above-17 : 18 ≤ n → lampOf n ≡ cond (within 18 19 n) Red (cond (within 20 21 n) Red Dark)
+  above-17 : 18 ≤ n → lampOf n ≡ cond (within 18 19 n) Red (cond (within 20 22 n) Red Dark)
   unfolding lampOf
   above-17 l =
       rw (
@@ -36,16 +36,16 @@ module _ (n : ℕ) where
         ne-eqb n 17 (λ e. omega arith),
       )
 
-  pub red-high : 18 ≤ n → n ≤ 21 → Red ≡ lampOf n
+  pub red-high : 18 ≤ n → n ≤ 22 → Red ≡ lampOf n
   red-high l m = rw (above-17 l) (go (decLt n 20))
     where
-      go : Dec (n < 20) → Red ≡ cond (within 18 19 n) Red (cond (within 20 21 n) Red Dark)
+      go : Dec (n < 20) → Red ≡ cond (within 18 19 n) Red (cond (within 20 22 n) Red Dark)
       go (yes h) = rw (le-leb 18 n l, le-leb n 19 (omega arith))
-      go (no h) = rw (le-leb 18 n l, lt-leb n 19 (omega arith), le-leb 20 n (omega arith), le-leb n 21 m)
+      go (no h) = rw (le-leb 18 n l, lt-leb n 19 (omega arith), le-leb 20 n (omega arith), le-leb n 22 m)
 
-  pub dark : 22 ≤ n → Dark ≡ lampOf n
+  pub dark : 23 ≤ n → Dark ≡ lampOf n
   dark l =
-      rw (above-17 (omega arith), le-leb 18 n (omega arith), lt-leb n 19 (omega arith), le-leb 20 n (omega arith), lt-leb n 21 (omega arith))
+      rw (above-17 (omega arith), le-leb 18 n (omega arith), lt-leb n 19 (omega arith), le-leb 20 n (omega arith), lt-leb n 22 (omega arith))
 
 module _ (r : Reading) (light : Lamp) (is : light ≡ lampOf (r .number)) where
   pub shown-accepted : (r .number ≡ 0) ⊎ (r .number ≡ 17)

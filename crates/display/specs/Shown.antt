@@ -12,7 +12,7 @@ abbrev pub within : ℕ → ℕ → ℕ → Bool
 within a b n = leb a n && leb n b
 
 -- "0 green, 1 to 13 red, 14 and 15 amber, 16 blue, 17 white, 18 and 19 red, later refusals of a map or job red, others dark"; the later
--- refusals are 20 and 21
+-- refusals are 20 to 22
 unfoldable pub lampOf : ℕ → Lamp
 lampOf n =
     cond (eqb n 0) Green
@@ -21,7 +21,7 @@ lampOf n =
     (cond (eqb n 16) Blue
     (cond (eqb n 17) White
     (cond (within 18 19 n) Red
-    (cond (within 20 21 n) Red
+    (cond (within 20 22 n) Red
     Dark))))))
 
 -- a read's number is 0 for a route, 17 for no route; any other is of a refused sheet

@@ -27,7 +27,7 @@ pub fn lamp(number: u32) -> Lamp
         14..=15 => Lamp::Amber,
         16 => Lamp::Blue,
         17 => Lamp::White,
-        18..=21 => Lamp::Red,
+        18..=22 => Lamp::Red,
         _ => Lamp::Dark,
     }
 }

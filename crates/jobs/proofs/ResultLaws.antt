@@ -20,7 +20,7 @@ use Rattle.model.specs.Costs.{table}
 use Rattle.model.specs.Rounds.{neverSpent}
 use Rattle.model.specs.Routes.{firstRoute}
 use Rattle.model.specs.Stated.{Stated, statedIn, problemOf}
-use Rattle.model.specs.Refusals.{Row, firstThatHolds, refusal, rows, inputRows, formRows, sizeRows, mapRows, costRows, jobRows, roomRows}
+use Rattle.model.specs.Refusals.{Row, firstThatHolds, refusal, rows, inputRows, formRows, sizeRows, mapRows, factorRows, costRows, jobRows, roomRows}
 use Rattle.model.specs.Refusals.{holdsAt, workWords, sheetBytes, shortWork, shortSheet, Accepted}
 use Rattle.model.specs.Sheets.{routeSheet, noRouteSheet, reading}
 use Rattle.model.specs.Endings.{Ending, budgeted}
@@ -78,7 +78,7 @@ given-below m (r ∷ rs) some small =
 
 -- every refusal's number is one of the papers'
 refusal-below : (f : Framed) (words bytes : ℕ) → refusal f words bytes < numbers
-unfolding refusal rows inputRows formRows sizeRows mapRows costRows jobRows roomRows any
+unfolding refusal rows inputRows formRows sizeRows mapRows factorRows costRows jobRows roomRows any
 refusal-below f words bytes = given-below numbers (rows f words bytes) (omega arith) refl
 
 -- ---- A route's sheet
@@ -251,11 +251,11 @@ over-length new area room = simp (length-append, length-drop) (omega arith)
 -- the areas of an accepted call have the room that 14 and 15 ask for
 module _ (input : List ℕ) (words bytes : ℕ) (A : Accepted input words bytes) where
   enough-words : workWords (statedIn input .size) ≤ words
-  unfolding rows inputRows formRows sizeRows mapRows costRows jobRows roomRows holdsAt refusal shortWork
+  unfolding rows inputRows formRows sizeRows mapRows factorRows costRows jobRows roomRows holdsAt refusal shortWork
   enough-words = ltb-false _ _ (row-fails (rows (frame input) words bytes) (rows-numbered (frame input) words bytes) A 14)
 
   enough-bytes : sheetBytes (statedIn input .size) ≤ bytes
-  unfolding rows inputRows formRows sizeRows mapRows costRows jobRows roomRows holdsAt refusal shortSheet
+  unfolding rows inputRows formRows sizeRows mapRows factorRows costRows jobRows roomRows holdsAt refusal shortSheet
   enough-bytes = ltb-false _ _ (row-fails (rows (frame input) words bytes) (rows-numbered (frame input) words bytes) A 15)
 
 -- A call keeps the lengths of the areas that it is lent.

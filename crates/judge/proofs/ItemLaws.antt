@@ -16,7 +16,7 @@ use Rattle.model.proofs.Tests.{any-filterMap-append, filterMap-append, any-appe
 use Rattle.judge.proofs.NumberLaws.{Joined, none as end, more}
 use Rattle.map.specs.declared.record as declared
 use Rattle.map.specs.declared.record.Item.{Item}
-use Rattle.map.specs.declared.record.Item.the-variants.{Head, Lane, Measured, Estimate, Wait, Job, Misfit, Other}
+use Rattle.map.specs.declared.record.Item.the-variants.{Head, Lane, Measured, Estimate, Wait, Factors, Job, Misfit, Other}
 use Rattle.map.specs.Items.{isMisfit, meant}
 use Rattle.model.specs.Items as model
 use Rattle.model.specs.Limits.{maxEstimate}
@@ -104,6 +104,7 @@ isOther (Lane l) = false
 isOther (Measured l) = false
 isOther (Estimate e) = false
 isOther (Wait w) = false
+isOther (Factors at) = false
 isOther (Job j) = false
 isOther Misfit = false
 isOther Other = true
@@ -204,6 +205,8 @@ own-given input false n places again (Estimate e) h = simp or-false (go (leb n (
     go false f = rw (h e refl refl (leb-false n (e .place) f))
 own-given input true n places again (Wait w) h = refl
 own-given input false n places again (Wait w) h = simp or-false
+own-given input true n places again (Factors at) h = refl
+own-given input false n places again (Factors at) h = refl
 own-given input true n places again (Job j) h = refl
 own-given input false n places again (Job j) h = refl
 own-given input true n places again Misfit h = refl
@@ -219,6 +222,7 @@ given-first n m a b (Lane l) = refl
 given-first n m a b (Measured l) = refl
 given-first n m a b (Estimate e) = refl
 given-first n m a b (Wait w) = refl
+given-first n m a b (Factors at) = refl
 given-first n m a b (Job j) = refl
 given-first n m a b Misfit = refl
 given-first n m a b Other = refl

@@ -9,7 +9,7 @@ use borrow.Author.Tests.{not-false, eqb-true, leb-false}
 use Rattle.judge.specs.declared.Judgement.the-variants.{Refused}
 use Rattle.judge.specs.declared.survey.Survey.{Survey}
 use Rattle.judge.specs.Judge.{Judged}
-use Rattle.judge.specs.Verdict.{RightMap, OneJob}
+use Rattle.judge.specs.Verdict.{RightMap, RightFactors, OneJob}
 use Rattle.judge.specs.Waits.{Fitting}
 use Rattle.judge.proofs.NumberLaws.{none-given}
 use Rattle.judge.proofs.JudgeMap.{refused}
@@ -20,17 +20,20 @@ use Rattle.model.specs.Lists.{any}
 use Rattle.model.specs.Refusals.{outsideMap, namesOutside, wrongMeasure, wrongWait, wrongJob, formRows, mapRows, costRows, jobRows}
 use Rattle.model.specs.Refusals.{firstThatHolds, firstOf, holdsAt, inputRefusal}
 use Rattle.model.specs.Stated.{Stated, stated}
-use Rattle.model.proofs.Acceptance.{flat-below, wait-below, states-factors}
-use Rattle.model.proofs.Charges.{IsTable, fixed-table, lane-cost-below}
+use Rattle.model.proofs.Acceptance.{flat-below, wait-below}
+use Rattle.model.proofs.Charges.{lane-cost-below}
 use Rattle.model.proofs.Lists.{neither, any-false}
 use Rattle.model.proofs.Rows.{row-fails}
 
-module _ (input marks : List ℕ) (s : Survey) (right : RightMap input marks s) where
+module _ (input marks : List ℕ) (s : Survey) (factors : List ℕ) (now : RightFactors input marks s factors) where
   abbrev rs : List Record
   rs = frame input .records
 
   abbrev st : Stated
   st = stated rs
+
+  abbrev right : RightMap input marks s
+  right = now .right
 
   -- what the look for 21 rests on, of an input of bytes
   pub fitting : Bytes input → Fitting input
@@ -41,13 +44,12 @@ module _ (input marks : List ℕ) (s : Survey) (right : RightMap input marks s) 
       let n = st .size .places in
       let ends = any (λ (l : Lane). leb n (l .from) || leb n (l .to)) (st .lanes) in
       let inside = neither (ends || namesOutside n (st .estimates)) _ (map 6) in
-      let table : IsTable (st .factors) = rw (states-factors rs) fixed-table in
       record {
         lengths = form 3;
         few = omega (arith, right .few, right .places);
         from = λ l i. leb-false _ _ (neither (leb n (l .from)) _ (any-false _ _ (neither ends _ (inside .0) .0) l i) .0);
         measure = any-false _ _ (map 20);
-        cost = λ l i. lane-cost-below (st .factors) table (l .charge) (flat-below input bytes l i) (any-false _ _ (map 20) l i);
+        cost = λ l i. lane-cost-below (st .factors) (now .table) (l .charge) (flat-below input bytes l i) (any-false _ _ (map 20) l i);
         place = λ w i. leb-false _ _ (any-false _ _ (inside .1) w i);
         value = wait-below input bytes;
       }
@@ -55,12 +57,12 @@ module _ (input marks : List ℕ) (s : Survey) (right : RightMap input marks s) 
   -- 21
   pub costs-refused : wrongWait st ≡ true → Judged input (Refused 21)
   unfolding costRows firstThatHolds firstOf
-  costs-refused wrong = refused input 21 (right .number ∙ rw wrong) (λ z. omega arith)
+  costs-refused wrong = refused input 21 (now .number ∙ rw wrong) (λ z. omega arith)
 
   module _ (costs : wrongWait st ≡ false) where
     after-costs : inputRefusal (frame input) ≡ firstThatHolds (jobRows (items rs) st)
     unfolding costRows firstThatHolds
-    after-costs = right .number ∙ none-given _ _ (rw costs)
+    after-costs = now .number ∙ none-given _ _ (rw costs)
 
     -- 10
     job-same : (not (eqb (s .jobs) 1) || not (s .«job_last»)) ≡ wrongJob (items rs)
@@ -80,6 +82,8 @@ module _ (input marks : List ℕ) (s : Survey) (right : RightMap input marks s) 
           places = right .places;
           few = right .few;
           arcs = right .states .arcs;
+          factors-lie = right .states .factors-lie;
+          factors = right .states .factors;
           job = right .states .job (eqb-true _ _ (not-false _ (parts .0)));
           goals-end = right .states .goals-end (not-false _ (parts .1));
           estimated = right .states .estimated;

@@ -106,8 +106,9 @@ module _ (input marks : List ℕ) (s : Survey) (j : OneJob input marks s) where
           positive false false false e z = omega arith
 
       pub accepted : n ≡ noNumber → (job : Job) → job .site ≡ record { places = s .places; arcs = s .arcs; start = s .job .start; growth = 2 }
-          → job .allowance ≡ s .job .allowance → job .goals ≡ s .job .goals → job .«goals_at» ≡ s .job .«goals_at» → Judged input (Accepted job)
-      accepted none job is-site is-allowance is-count is-at =
+          → job .allowance ≡ s .job .allowance → job .goals ≡ s .job .goals → job .«goals_at» ≡ s .job .«goals_at»
+          → job .«factors_at» ≡ s .«factors_at» → Judged input (Accepted job)
+      accepted none job is-site is-allowance is-count is-at is-table =
           let states : States input job =
           record {
             places = ap (λ (x : Site). x .places) is-site ∙ j .places;
@@ -117,6 +118,8 @@ module _ (input marks : List ℕ) (s : Survey) (j : OneJob input marks s) where
             allowance = is-allowance ∙ allowance-same;
             goals-end = rw (is-count, is-at) (j .goals-end);
             goals = rw (is-count, is-at) goals-same;
+            factors-lie = rw is-table (j .factors-lie);
+            factors = rw is-table (j .factors);
           } in
           record {
             number = sym (refusal-same ∙ rw (eq-eqb n noNumber none));

@@ -1,4 +1,4 @@
--- The judgement up to the costs of arcs. Assumes nothing.
+-- The judgement up to the factors. Assumes nothing.
 use mathlib.Core.Path.{_≡_, refl, ap, sym, _∙_}
 use mathlib.Core.Bool.{Bool, true, false, cond, not, _||_, or-true}
 use mathlib.Core.List.{List, _++_}
@@ -21,7 +21,7 @@ use Rattle.model.specs.Framing.{Record, frame}
 use Rattle.model.specs.Items.{items}
 use Rattle.model.specs.Limits.{maxPlaces, maxArcs}
 use Rattle.model.specs.Lists.{any}
-use Rattle.model.specs.Refusals.{Row, wrongSize, formRows, sizeRows, mapRows, costRows, jobRows, firstThatHolds, firstOf, inputRefusal}
+use Rattle.model.specs.Refusals.{Row, wrongSize, formRows, sizeRows, mapRows, factorRows, costRows, jobRows, firstThatHolds, firstOf, inputRefusal}
 use Rattle.model.specs.Stated.{Stated, stated, statedIn}
 use Rattle.model.proofs.Lists.{neither}
 use Rattle.model.proofs.Rows.{input-groups}
@@ -79,7 +79,8 @@ module _ (input marks : List ℕ) (s : Survey) (f : Formed input marks s) where
 
   -- what comes after 20
   abbrev later : ℕ
-  later = firstOf (firstThatHolds (costRows st)) (firstThatHolds (jobRows (items rs) st))
+  later =
+      firstOf (firstThatHolds (factorRows (items rs))) (firstOf (firstThatHolds (costRows st)) (firstThatHolds (jobRows (items rs) st)))
 
   after-form : inputRefusal (frame input) ≡ firstOf (firstThatHolds (sizeRows st)) (firstOf (firstThatHolds (mapRows st)) later)
   after-form = input-groups (frame input) ∙ none-given _ _ (f .form)

@@ -10,7 +10,7 @@ use Rattle.map.specs.declared.Job.{Job}
 use Rattle.model.specs.Framing.{frame}
 use Rattle.model.specs.Limits.{maxPlaces, maxArcs}
 use Rattle.model.specs.Stated.{statedIn}
-use Rattle.model.specs.Refusals.{wrongSize, formRows, sizeRows, mapRows, costRows, jobRows, inputRows, firstOf, holdsAt, inputRefusal}
+use Rattle.model.specs.Refusals.{wrongSize, formRows, sizeRows, mapRows, factorRows, costRows, jobRows, inputRows, firstOf, holdsAt, inputRefusal}
 use Rattle.model.proofs.Lists.{neither}
 use Rattle.model.proofs.Rows.{row-fails, input-numbered}
 use Rattle.judge.specs.Judge.{Judged, Passes}
@@ -34,7 +34,7 @@ module _ {input : List ℕ} {g : Judgement} (judged : Judged input g) where
   passes {j} e = record { number = sym (rw e at (judged .number)); states = judged .states j e }
 
 pub sizes : {input : List ℕ} {j : Job} → Passes input j → (j .site .places ≤ maxPlaces) × (j .site .arcs ≤ maxArcs)
-unfolding inputRefusal inputRows formRows sizeRows mapRows costRows jobRows holdsAt wrongSize
+unfolding inputRefusal inputRows formRows sizeRows mapRows factorRows costRows jobRows holdsAt wrongSize
 sizes {input} p =
     let s = statedIn input in
     let n = s .size .places in

@@ -3,7 +3,7 @@ use mathlib.Core.Path.{_≡_, refl, ap, ap₂, sym, _∙_}
 use mathlib.Core.Bool.{Bool, true, false, cond, not, _||_, or-false, false≢true, true≢false}
 use mathlib.Core.List.{List, [], _∷_, _++_, map, map-append, append-nil}
 use mathlib.Core.Option.{Option, none, some}
-use Prim.Native.Nat.{ℕ, _+_, _≤_, min}
+use Prim.Native.Nat.{ℕ, _+_, _≤_, _<_, min}
 use native.Mathlib.Omega.{arith}
 use lib.Dec.{ltb, eqb}
 use lib.ListN.{length, getD, length-append, length-map}
@@ -11,17 +11,20 @@ use borrow.Author.Tests.{ltb-false, eqb-true, ne-eqb}
 use Rattle.judge.specs.declared.survey.Survey.{Survey}
 use Rattle.judge.specs.Numbers.{noNumber, numberOr}
 use Rattle.judge.specs.Marks.{markOf, firstMark}
-use Rattle.judge.specs.Survey.{given, fewPlaces, passed, opened, withHead, withLane, withWait, withJob, noted, againIn, marksBy, Noted}
-use Rattle.judge.specs.Survey.{saidOf, said, opening, sizeOr, stray, jobOr, placed, itemRows, Notes}
+use Rattle.judge.specs.Survey.{given, fewPlaces, passed, opened, withHead, withLane, withWait, withFactors, withJob, noted, againIn, marksBy, Noted}
+use Rattle.judge.specs.Survey.{saidOf, said, opening, stray, placed, itemRows, Notes}
 use Rattle.model.proofs.Tests.{any-append, filterMap-append}
 use Rattle.judge.proofs.NumberLaws.{joined-least}
-use Rattle.judge.proofs.MarkLaws.{mark-positive, marked-length, marked-member, marked-after}
+use Rattle.judge.proofs.MarkLaws.{mark-positive, marked-member, marked-after}
 use Rattle.judge.proofs.ItemLaws.{ends-snoc, last-snoc, isOther, joined, Again, own-given, given-first}
+use Rattle.judge.proofs.FactorLaws.{InForce}
+use Rattle.judge.proofs.NoteLaws.{noted-number, noted-records, noted-lanes, noted-waits, noted-tables, noted-factors, noted-jobs}
+use Rattle.judge.proofs.NoteLaws.{noted-last, noted-job, noted-opens, noted-keeps, marks-length}
 use Rattle.map.specs.declared.record as declared
 use Rattle.map.specs.declared.record.Item.{Item}
-use Rattle.map.specs.declared.record.Item.the-variants.{Head, Lane, Measured, Estimate, Wait, Job, Misfit, Other}
+use Rattle.map.specs.declared.record.Item.the-variants.{Head, Lane, Measured, Estimate, Wait, Factors, Job, Misfit, Other}
 use Rattle.map.specs.Records.{recordIn}
-use Rattle.map.specs.Items.{isMisfit, jobOf, meant, Says}
+use Rattle.map.specs.Items.{isMisfit, meant, LiesIn, Says}
 use Rattle.model.specs.Framing.{Record}
 use Rattle.model.specs.Items as model
 use Rattle.model.specs.Limits.{maxPlaces}
@@ -38,6 +41,7 @@ nothing-meant input (Lane l) e = absurd (false≢true e)
 nothing-meant input (Measured l) e = absurd (false≢true e)
 nothing-meant input (Estimate e) f = absurd (false≢true f)
 nothing-meant input (Wait w) e = absurd (false≢true e)
+nothing-meant input (Factors at) e = absurd (false≢true e)
 nothing-meant input (Job j) e = absurd (false≢true e)
 nothing-meant input Misfit e = refl
 nothing-meant input Other e = absurd (false≢true e)
@@ -74,133 +78,10 @@ module _ (input : List ℕ) (r : declared.Record.Record) (i : Item) (says : Says
       go (Measured l) e f = rw (f refl)
       go (Estimate x) e f = rw (f refl)
       go (Wait w) e f = rw (f refl)
+      go (Factors at) e f = rw (f refl)
       go (Job j) e f = rw (f refl)
       go Misfit e f = rw (misfit-known whole e)
       go Other e f = rw (f refl)
-
--- ---- What is noted of it
-
-pub either : {A : Type 0} (f : Survey → A) (t : Bool) (a b : Survey) (x : A) → f a ≡ x → f b ≡ x → f (cond t a b) ≡ x
-either f true a b x e g = e
-either f false a b x e g = g
-
-module _ (input : List ℕ) (again : Bool) (s : Survey) where
-  noted-number : (i : Item) → noted again s i .number ≡ min (s .number) (given (eqb (s .records) 0) (s .places) again i)
-  unfolding noted given withHead withLane withWait withJob
-  noted-number (Head z) = go (eqb (s .records) 0)
-    where
-      go : (t : Bool) → cond t (opened (passed s noNumber) z) (passed s 4) .number ≡ min (s .number) (cond t noNumber 4)
-      go true = refl
-      go false = refl
-  noted-number (Lane l) = refl
-  noted-number (Measured l) = refl
-  noted-number (Estimate e) = refl
-  noted-number (Wait w) = refl
-  noted-number (Job j) = refl
-  noted-number Misfit = refl
-  noted-number Other = refl
-
-  noted-records : (i : Item) → noted again s i .records ≡ s .records + 1
-  unfolding noted withHead withLane withWait withJob
-  noted-records (Head z) = either (λ t. t .records) (eqb (s .records) 0) _ _ _ refl refl
-  noted-records (Lane l) = refl
-  noted-records (Measured l) = refl
-  noted-records (Estimate e) = refl
-  noted-records (Wait w) = refl
-  noted-records (Job j) = refl
-  noted-records Misfit = refl
-  noted-records Other = refl
-
-  noted-lanes : (i : Item) → noted again s i .lanes ≡ s .lanes + length (filterMap model.laneIn (meant input i ∷ []))
-  unfolding noted withHead withLane withWait withJob meant filterMap consIf model.laneIn
-  noted-lanes (Head z) = either (λ t. t .lanes) (eqb (s .records) 0) _ _ _ (omega arith) (omega arith)
-  noted-lanes (Lane l) = refl
-  noted-lanes (Measured l) = refl
-  noted-lanes (Estimate e) = omega arith
-  noted-lanes (Wait w) = omega arith
-  noted-lanes (Job j) = omega arith
-  noted-lanes Misfit = omega arith
-  noted-lanes Other = omega arith
-
-  noted-waits : (i : Item) → noted again s i .waits ≡ s .waits + length (filterMap model.waitIn (meant input i ∷ []))
-  unfolding noted withHead withLane withWait withJob meant filterMap consIf model.waitIn
-  noted-waits (Head z) = either (λ t. t .waits) (eqb (s .records) 0) _ _ _ (omega arith) (omega arith)
-  noted-waits (Lane l) = omega arith
-  noted-waits (Measured l) = omega arith
-  noted-waits (Estimate e) = omega arith
-  noted-waits (Wait w) = refl
-  noted-waits (Job j) = omega arith
-  noted-waits Misfit = omega arith
-  noted-waits Other = omega arith
-
-  noted-jobs : (i : Item) → noted again s i .jobs ≡ s .jobs + length (filterMap model.jobIn (meant input i ∷ []))
-  unfolding noted withHead withLane withWait withJob meant filterMap consIf model.jobIn
-  noted-jobs (Head z) = either (λ t. t .jobs) (eqb (s .records) 0) _ _ _ (omega arith) (omega arith)
-  noted-jobs (Lane l) = omega arith
-  noted-jobs (Measured l) = omega arith
-  noted-jobs (Estimate e) = omega arith
-  noted-jobs (Wait w) = omega arith
-  noted-jobs (Job j) = refl
-  noted-jobs Misfit = omega arith
-  noted-jobs Other = omega arith
-
-  noted-last : (i : Item) → noted again s i .«job_last» ≡ isGiven (model.jobIn (meant input i))
-  unfolding noted withHead withLane withWait withJob meant model.jobIn isGiven
-  noted-last (Head z) = either (λ t. t .«job_last») (eqb (s .records) 0) _ _ _ refl refl
-  noted-last (Lane l) = refl
-  noted-last (Measured l) = refl
-  noted-last (Estimate e) = refl
-  noted-last (Wait w) = refl
-  noted-last (Job j) = refl
-  noted-last Misfit = refl
-  noted-last Other = refl
-
-  noted-job : (i : Item) → jobOf input (noted again s i .job) ≡ jobOr (jobOf input (s .job)) (model.jobIn (meant input i))
-  unfolding noted withHead withLane withWait withJob meant model.jobIn
-  noted-job (Head z) = either (λ t. jobOf input (t .job)) (eqb (s .records) 0) _ _ _ refl refl
-  noted-job (Lane l) = refl
-  noted-job (Measured l) = refl
-  noted-job (Estimate e) = refl
-  noted-job (Wait w) = refl
-  noted-job (Job j) = refl
-  noted-job Misfit = refl
-  noted-job Other = refl
-
-  -- the first record opens the map, and no later one does
-  noted-opens : s .records ≡ 0 → s .places ≡ 0 → s .arcs ≡ 0 → (i : Item)
-      → (noted again s i .places ≡ fewPlaces (sizeOr (model.sizeIn (meant input i)) .places))
-      × (noted again s i .arcs ≡ sizeOr (model.sizeIn (meant input i)) .arcs)
-  unfolding noted withHead withLane withWait withJob meant model.sizeIn
-  noted-opens first p a (Head z) = rw first (refl, refl)
-  noted-opens first p a (Lane l) = (p, a)
-  noted-opens first p a (Measured l) = (p, a)
-  noted-opens first p a (Estimate e) = (p, a)
-  noted-opens first p a (Wait w) = (p, a)
-  noted-opens first p a (Job j) = (p, a)
-  noted-opens first p a Misfit = (p, a)
-  noted-opens first p a Other = (p, a)
-
-  noted-keeps : eqb (s .records) 0 ≡ false → (i : Item) → (noted again s i .places ≡ s .places) × (noted again s i .arcs ≡ s .arcs)
-  unfolding noted withHead withLane withWait withJob
-  noted-keeps later (Head z) = rw later (refl, refl)
-  noted-keeps later (Lane l) = (refl, refl)
-  noted-keeps later (Measured l) = (refl, refl)
-  noted-keeps later (Estimate e) = (refl, refl)
-  noted-keeps later (Wait w) = (refl, refl)
-  noted-keeps later (Job j) = (refl, refl)
-  noted-keeps later Misfit = (refl, refl)
-  noted-keeps later Other = (refl, refl)
-
-marks-length : (n : ℕ) (m : List ℕ) (i : Item) → length (marksBy n m i) ≡ length m
-unfolding marksBy
-marks-length n m (Head z) = refl
-marks-length n m (Lane l) = refl
-marks-length n m (Measured l) = refl
-marks-length n m (Estimate e) = marked-length markOf n m (e .place) (e .value)
-marks-length n m (Wait w) = refl
-marks-length n m (Job j) = refl
-marks-length n m Misfit = refl
-marks-length n m Other = refl
 
 -- ---- The survey of one record more
 
@@ -240,7 +121,7 @@ module _ (input : List ℕ) (rs : List Record) (m : List ℕ) (s : Survey) (note
   noted-marks : (again : Bool) (i : Item) (v : ℕ)
       → getD (marksBy (s .places) m i) v 0
       ≡ cond (ltb v (noted again s i .places)) (firstMark markOf (es ++ filterMap model.estimateIn (meant input i ∷ [])) v) 0
-  unfolding marksBy noted withHead withLane withWait withJob meant filterMap consIf model.estimateIn said firstMark
+  unfolding marksBy noted withHead withLane withWait withFactors withJob meant filterMap consIf model.estimateIn said firstMark
   noted-marks again (Head z) v = rw (append-nil es) (go (eqb (s .records) 0) refl)
     where
       go : (t : Bool) → eqb (s .records) 0 ≡ t
@@ -256,6 +137,7 @@ module _ (input : List ℕ) (rs : List Record) (m : List ℕ) (s : Survey) (note
       let x : model.PlaceValue = record { place = e .place; value = e .value } in
       marked-after markOf mark-positive (s .places) es m (notes .mark) marks-room x v
   noted-marks again (Wait w) v = rw (append-nil es) (notes .mark v)
+  noted-marks again (Factors at) v = rw (append-nil es) (notes .mark v)
   noted-marks again (Job j) v = rw (append-nil es) (notes .mark v)
   noted-marks again Misfit v = rw (append-nil es) (notes .mark v)
   noted-marks again Other v = rw (append-nil es) (notes .mark v)
@@ -305,8 +187,8 @@ module _ (input : List ℕ) (rs : List Record) (m : List ℕ) (s : Survey) (note
             ∙ ap (λ (n : ℕ). numberOr noNumber (rowsAfter n)) (sym (noted-keeps input again s e i .0))
 
 -- the survey of the records so far becomes that of one record more
-module _ (input : List ℕ) (rs : List Record) (m : List ℕ) (s : Survey) (notes : Notes input rs m s) (r : declared.Record.Record) (i : Item)
-    (says : Says input r i) where
+module _ (input : List ℕ) (rs : List Record) (m : List ℕ) (s : Survey) (notes : Notes input rs m s) (r : declared.Record.Record)
+    (lies : LiesIn input r) (behind : 0 < r .start) (i : Item) (says : Says input r i) where
   abbrev more : List Record
   more = rs ++ (recordIn input r ∷ [])
 
@@ -344,6 +226,9 @@ module _ (input : List ℕ) (rs : List Record) (m : List ℕ) (s : Survey) (note
   notes-again marks t step =
       let again = againIn (s .places) m i in
       let sizes = size-more again in
+      let tables = filterMap model.factorsIn (said rs) in
+      let now : InForce input tables (s .«factors_at») = record { lie = notes .factors-lie; are = notes .factors } in
+      let table = noted-factors input again s tables (notes .tables) now r lies behind i says in
       rw (step .survey)
       (record {
         number = rw (unknown-more, misfit-more, said-more) (noted-rows input rs m s notes i);
@@ -352,6 +237,9 @@ module _ (input : List ℕ) (rs : List Record) (m : List ℕ) (s : Survey) (note
         arcs = sizes .1;
         lanes = noted-lanes input again s i ∙ rw (notes .lanes, said-more, filterMap-append, length-append);
         waits = noted-waits input again s i ∙ rw (notes .waits, said-more, filterMap-append, length-append);
+        tables = noted-tables input again s i ∙ rw (notes .tables, said-more, filterMap-append, length-append);
+        factors-lie = table .lie;
+        factors = table .are ∙ rw (said-more, filterMap-append);
         jobs = noted-jobs input again s i ∙ rw (notes .jobs, said-more, filterMap-append, length-append);
         job-last = noted-last input again s i ∙ rw (said-more, ends-snoc);
         job = noted-job input again s i ∙ rw (notes .job, said-more, last-snoc);

@@ -12,12 +12,12 @@ use borrow.Author.Tests.{eq-eqb, ne-eqb, le-ltb}
 use types.Run.{OneOf, miss}
 use denote.Enum.Declared.{tagOf}
 use Rattle.model.specs.Framing.{frame}
-use Rattle.model.specs.Items.{Lane, PlaceValue, Item, head, lane, estimate, job, wait, other, items, laneIn, waitIn}
+use Rattle.model.specs.Items.{Lane, PlaceValue, Item, head, lane, estimate, job, wait, ownFactors, other, items, laneIn, waitIn}
 use Rattle.model.specs.Limits.{maxPlaces, maxCost}
 use Rattle.model.specs.Lists.{any, consIf, filterMap, member, repeats}
 use Rattle.model.specs.Refusals.{placesIn, wrongWait}
-use Rattle.model.specs.Stated.{Stated, fixedFactors, statedBy, stated, statedIn, lookup, costUnder, laneCost, waitAt, arcOf}
-use Rattle.model.proofs.Acceptance.{lookup-below, states-factors}
+use Rattle.model.specs.Stated.{Stated, statedBy, stated, statedIn, lookup, costUnder, laneCost, waitAt, arcOf}
+use Rattle.model.proofs.Acceptance.{lookup-below}
 use Rattle.model.proofs.Lists.{filterMap-member}
 use Rattle.model.proofs.Tests.{any-none, repeats-snoc}
 use Rattle.map.specs.declared.record as declared
@@ -95,6 +95,7 @@ module _ {s : Stated} {is : List Item} {noted : List ℕ} {twice : Bool} where
   one-noted (estimate e) inside now = step-none refl now
   one-noted (job j) inside now = step-none refl now
   one-noted (wait w) inside now = step-wait w (inside w refl) now
+  one-noted (ownFactors fs) inside now = step-none refl now
   one-noted other inside now = step-none refl now
 
 -- what is kept while waits are noted: the notes, and whether two are for one place
@@ -109,6 +110,7 @@ module _ {input : List ℕ} {at : ℕ} {r : declared.Record.Record} {i : declare
   noting-can =
       of-map input (λ k. CanNote k (kept .0))
       (λ j k c. record { room = c .room; place = c .place; value = c .value })
+      (λ fs gs c. record { room = c .room; place = c .place; value = c .value })
       i
       (record {
         room = comes .first .room;
@@ -120,8 +122,8 @@ module _ {input : List ℕ} {at : ℕ} {r : declared.Record.Record} {i : declare
       → NotingKept (statedIn input) (items (frame (drop (r .end) input) .records)) (noted, kept .1 || again)
   unfolding notedBy noteAgain
   noting-step step =
-      let after = of-map input (λ k. notedBy k (kept .0) ≡ notedBy (meant input i) (kept .0)) (λ j k e. e) i refl in
-      let before = of-map input (λ k. noteAgain k (kept .0) ≡ noteAgain (meant input i) (kept .0)) (λ j k e. e) i refl in
+      let after = of-map input (λ k. notedBy k (kept .0) ≡ notedBy (meant input i) (kept .0)) (λ j k e. e) (λ fs gs e. e) i refl in
+      let before = of-map input (λ k. noteAgain k (kept .0) ≡ noteAgain (meant input i) (kept .0)) (λ j k e. e) (λ fs gs e. e) i refl in
       rw (step .after ∙ after, step .before ∙ before) (one-noted (meant input i) (wait-place fits (comes .in-all)) (comes .first))
 
 -- at the first item, and after the last
@@ -156,14 +158,15 @@ notes-wait {i} {noted} {w} can is =
     })
 
 -- nothing else is noted
-pub notes-none : (i : declared.Item.Item) (noted : List ℕ) → OneOf (0 ∷ 1 ∷ 2 ∷ 3 ∷ 5 ∷ 6 ∷ 7 ∷ []) (tagOf the-type i)
+pub notes-none : (i : declared.Item.Item) (noted : List ℕ) → OneOf (0 ∷ 1 ∷ 2 ∷ 3 ∷ 5 ∷ 6 ∷ 7 ∷ 8 ∷ []) (tagOf the-type i)
     → NotedItem (ofMap i) noted false noted
 unfolding meant notedBy noteAgain
 notes-none (variants.Head s) noted k = record { before = refl; after = refl }
 notes-none (variants.Lane l) noted k = record { before = refl; after = refl }
 notes-none (variants.Measured l) noted k = record { before = refl; after = refl }
 notes-none (variants.Estimate e) noted k = record { before = refl; after = refl }
-notes-none (variants.Wait w) noted k = absurd (miss (0 ∷ 1 ∷ 2 ∷ 3 ∷ 5 ∷ 6 ∷ 7 ∷ []) 4 tt k)
+notes-none (variants.Wait w) noted k = absurd (miss (0 ∷ 1 ∷ 2 ∷ 3 ∷ 5 ∷ 6 ∷ 7 ∷ 8 ∷ []) 4 tt k)
+notes-none (variants.Factors at) noted k = record { before = refl; after = refl }
 notes-none (variants.Job j) noted k = record { before = refl; after = refl }
 notes-none variants.Misfit noted k = record { before = refl; after = refl }
 notes-none variants.Other noted k = record { before = refl; after = refl }
@@ -187,6 +190,7 @@ module _ {factors input noted : List ℕ} (can : Weighable factors input noted) 
   one-weighed is dear (estimate e) now = rw (or-false dear) now
   one-weighed is dear (job j) now = rw (or-false dear) now
   one-weighed is dear (wait w) now = rw (or-false dear) now
+  one-weighed is dear (ownFactors fs) now = rw (or-false dear) now
   one-weighed is dear other now = rw (or-false dear) now
 
   -- a wait is at most 65,535
@@ -204,6 +208,7 @@ module _ {factors input noted : List ℕ} (can : Weighable factors input noted) 
         let stated-lane = said-lane (can .fits) (comes .in-all) in
         of-map input (λ k. CanWeigh factors k noted)
         (λ j k c. record { room = c .room; small = c .small; from = c .from; measure = c .measure; cost = c .cost })
+        (λ fs gs c. record { room = c .room; small = c .small; from = c .from; measure = c .measure; cost = c .cost })
         i
         (record {
           room = can .room;
@@ -217,7 +222,7 @@ module _ {factors input noted : List ℕ} (can : Weighable factors input noted) 
         → Weighing st (items (frame (drop (r .end) input) .records)) (dear || found)
     unfolding tooDear
     weighing-step is =
-        let same = of-map input (λ k. tooDear factors noted k ≡ tooDear factors noted (meant input i)) (λ j k e. e) i refl in
+        let same = of-map input (λ k. tooDear factors noted k ≡ tooDear factors noted (meant input i)) (λ j k e. e) (λ fs gs e. e) i refl in
         rw (is ∙ same) (one-weighed (items (frame (drop (r .end) input) .records)) dear (meant input i) (comes .first))
 
 -- at the first item, and after the last
@@ -245,14 +250,15 @@ module _ (factors noted : List ℕ) {i : Item} {l : Lane} (is : i ≡ lane l) wh
   lane-weighed = rw is
 
 -- nothing else is too dear
-pub weighs-none : (factors noted : List ℕ) (i : declared.Item.Item) → OneOf (0 ∷ 3 ∷ 4 ∷ 5 ∷ 6 ∷ 7 ∷ []) (tagOf the-type i)
+pub weighs-none : (factors noted : List ℕ) (i : declared.Item.Item) → OneOf (0 ∷ 3 ∷ 4 ∷ 5 ∷ 6 ∷ 7 ∷ 8 ∷ []) (tagOf the-type i)
     → false ≡ tooDear factors noted (ofMap i)
 unfolding meant tooDear
 weighs-none factors noted (variants.Head s) k = refl
-weighs-none factors noted (variants.Lane l) k = absurd (miss (0 ∷ 3 ∷ 4 ∷ 5 ∷ 6 ∷ 7 ∷ []) 1 tt k)
-weighs-none factors noted (variants.Measured l) k = absurd (miss (0 ∷ 3 ∷ 4 ∷ 5 ∷ 6 ∷ 7 ∷ []) 2 tt k)
+weighs-none factors noted (variants.Lane l) k = absurd (miss (0 ∷ 3 ∷ 4 ∷ 5 ∷ 6 ∷ 7 ∷ 8 ∷ []) 1 tt k)
+weighs-none factors noted (variants.Measured l) k = absurd (miss (0 ∷ 3 ∷ 4 ∷ 5 ∷ 6 ∷ 7 ∷ 8 ∷ []) 2 tt k)
 weighs-none factors noted (variants.Estimate e) k = refl
 weighs-none factors noted (variants.Wait w) k = refl
+weighs-none factors noted (variants.Factors at) k = refl
 weighs-none factors noted (variants.Job j) k = refl
 weighs-none factors noted variants.Misfit k = refl
 weighs-none factors noted variants.Other k = refl
@@ -260,10 +266,9 @@ weighs-none factors noted variants.Other k = refl
 -- ---- Both
 
 -- once the waits are noted, the lanes can be weighed
-pub weighable : {input factors noted : List ℕ} {twice : Bool} → Fitting input → factors ≡ fixedFactors → NotedAll (statedIn input) twice noted
-    → Weighable factors input noted
-weighable {input} fits fixed all =
-    record { fits = fits; stated-factors = fixed ∙ sym (states-factors (frame input .records)); room = all .room; notes = all .notes }
+pub weighable : {input factors noted : List ℕ} {twice : Bool} → Fitting input → factors ≡ statedIn input .factors
+    → NotedAll (statedIn input) twice noted → Weighable factors input noted
+weighable fits in-force all = record { fits = fits; stated-factors = in-force; room = all .room; notes = all .notes }
 
 -- without waits no arc is too dear, since no lane is by itself
 pub no-waits : {input : List ℕ} → Fitting input → length (statedIn input .waits) ≡ 0 → wrongWait (statedIn input) ≡ false

@@ -1,7 +1,7 @@
 -- The pass over the records, record by record to the end of the input. Assumes nothing.
 use mathlib.Core.Path.{_≡_, refl, ap, ap₂, sym, _∙_}
 use mathlib.Core.Bool.{Bool, true, false, cond, false≢true}
-use mathlib.Core.List.{List, [], _∷_, _++_, append-nil}
+use mathlib.Core.List.{List, [], _∷_, _++_, append-nil, headD}
 use Prim.Native.Nat.{ℕ, _+_, _*_, _^_, _<_}
 use native.Mathlib.Omega.{arith}
 use lib.Dec.{ltb, eqb}
@@ -11,18 +11,20 @@ use borrow.Author.Tests.{lt-ltb, ne-eqb}
 use Rattle.judge.specs.declared.survey.Survey.{Survey}
 use Rattle.judge.specs.Numbers.{noNumber, numberOr}
 use Rattle.judge.specs.Marks.{firstMark, Clear}
-use Rattle.judge.specs.Survey.{fewPlaces, withHead, withLane, withWait, withJob, noted, againIn, Noted, Counted}
+use Rattle.judge.specs.Survey.{fewPlaces, withHead, withLane, withWait, withFactors, withJob, noted, againIn, Noted, Counted}
 use Rattle.judge.specs.Survey.{saidOf, said, opening, stray, lastJob, placed, itemRows, Notes, Walked, atEnd, Stating, Surveyed}
 use Rattle.model.proofs.Tests.{filterMap-length}
 use Rattle.judge.proofs.MarkLaws.{mark-two}
 use Rattle.judge.proofs.ItemLaws.{last-one, opening-size, stray-head}
-use Rattle.judge.proofs.SurveyLaws.{either, count, few-places, nothing-yet, notes-again}
+use Rattle.judge.proofs.NoteLaws.{either}
+use Rattle.judge.proofs.SurveyLaws.{count, few-places, nothing-yet, notes-again}
 use Rattle.map.specs.declared.record as declared
 use Rattle.map.specs.declared.record.Read.the-variants.{Whole, Broken, End}
 use Rattle.map.specs.declared.record.Item.{Item}
-use Rattle.map.specs.declared.record.Item.the-variants.{Head, Lane, Measured, Estimate, Wait, Job, Misfit, Other}
+use Rattle.map.specs.declared.record.Item.the-variants.{Head, Lane, Measured, Estimate, Wait, Factors, Job, Misfit, Other}
 use Rattle.map.specs.Records.{readAt, recordIn}
 use Rattle.map.specs.Items.{jobOf, endBy, EndsBy, LiesIn, Says}
+use Rattle.map.proofs.Factors.{fixed-table}
 use Rattle.map.proofs.Records.{frame-end, frame-broken, frame-whole}
 use Rattle.model.specs.Bytes.{u16s}
 use Rattle.model.specs.Framing.{Record, Framed, stop, push, frame}
@@ -45,6 +47,8 @@ empty =
       arcs = 0;
       lanes = 0;
       waits = 0;
+      tables = 0;
+      «factors_at» = 0;
       jobs = 0;
       «job_last» = false;
       job = record { start = 0; allowance = 0; goals = 0; «goals_at» = 0 };
@@ -53,7 +57,7 @@ empty =
 notes-start : (input marks : List ℕ) → Clear marks → Notes input [] marks empty
 unfolding itemRows numberOr said model.items unknownKind wrongLength stray mapRows placed statedBy outsideMap freeArc largeEstimate
     twoEstimates wrongMeasure
-    filterMap any repeats opening endsWithJob lastJob jobOf u16s firstMark
+    filterMap any repeats opening endsWithJob lastJob jobOf u16s firstMark headD
 notes-start input marks clear =
     record {
       number = refl;
@@ -62,6 +66,9 @@ notes-start input marks clear =
       arcs = refl;
       lanes = refl;
       waits = refl;
+      tables = refl;
+      factors-lie = λ some. absurd (some refl);
+      factors = fixed-table input;
       jobs = refl;
       job-last = refl;
       job = refl;
@@ -86,13 +93,14 @@ walk-start input marks clear =
 -- a job that was noted last ends the bytes passed
 noted-ends : (again : Bool) (s : Survey) (r : declared.Record.Record) (i : Item) → EndsBy r i
     → noted again s i .«job_last» ≡ true → noted again s i .job .«goals_at» + 2 * noted again s i .job .goals ≡ r .end
-unfolding noted withHead withLane withWait withJob endBy
+unfolding noted withHead withLane withWait withFactors withJob endBy
 noted-ends again s r (Head z) e last =
     absurd (false≢true (sym (either (λ t. t .«job_last») (eqb (s .records) 0) _ _ false refl refl) ∙ last))
 noted-ends again s r (Lane l) e last = absurd (false≢true last)
 noted-ends again s r (Measured l) e last = absurd (false≢true last)
 noted-ends again s r (Estimate x) e last = absurd (false≢true last)
 noted-ends again s r (Wait w) e last = absurd (false≢true last)
+noted-ends again s r (Factors at) e last = absurd (false≢true last)
 noted-ends again s r (Job j) e last = e
 noted-ends again s r Misfit e last = absurd (false≢true last)
 noted-ends again s r Other e last = absurd (false≢true last)
@@ -103,11 +111,13 @@ module _ (input : List ℕ) (at : ℕ) (m : List ℕ) (s : Survey) (w : Walked i
       let all = count input (w .passed) m s (w .notes) in
       let lanes = filterMap-length model.laneIn (said (w .passed)) in
       let waits = filterMap-length model.waitIn (said (w .passed)) in
+      let tables = filterMap-length model.factorsIn (said (w .passed)) in
       let jobs = filterMap-length model.jobIn (said (w .passed)) in
       record {
         records = omega (arith, w .notes .records, w .few);
         lanes = omega (arith, w .notes .lanes);
         waits = omega (arith, w .notes .waits);
+        tables = omega (arith, w .notes .tables);
         jobs = omega (arith, w .notes .jobs);
         places = rw (w .notes .places) (few-places (opening (said (w .passed)) .places));
       }
@@ -127,7 +137,7 @@ module _ (input : List ℕ) (at : ℕ) (m : List ℕ) (s : Survey) (w : Walked i
         split = w .split ∙ ap (λ (f : Framed). w .passed ++ f .records) (is .framed) ∙ sym (append-snoc (w .passed) (recordIn input r) rest);
         broken = w .broken ∙ ap (λ (f : Framed). f .broken) (is .framed);
         few = omega (arith, length-append (w .passed) (recordIn input r ∷ []), w .few, is .begins, is .lies .forward);
-        notes = notes-again input (w .passed) m s (w .notes) r i says marks t step;
+        notes = notes-again input (w .passed) m s (w .notes) r (is .lies) (omega (arith, is .begins)) i says marks t step;
         goals-end = λ last. rw (step .survey) (noted-ends (againIn (s .places) m i) s r i (says .ends) (rw (step .survey) at last));
       }
 
@@ -182,6 +192,9 @@ module _ (input : List ℕ) (m : List ℕ) (s : Survey) where
         arcs = rw is (notes .arcs ∙ ap (λ (z : model.Size). z .arcs) size);
         lanes = rw is (notes .lanes ∙ rw fits);
         waits = rw is (notes .waits ∙ rw fits);
+        tables = rw is (notes .tables ∙ rw fits);
+        factors-lie = notes .factors-lie;
+        factors = rw is (notes .factors ∙ rw fits);
         jobs = rw is (notes .jobs ∙ rw fits);
         job-last = rw is (notes .job-last ∙ rw fits);
         job = λ one. rw is (notes .job ∙ rw fits (last-one _ _ (model.items rs) (rw fits at (sym (notes .jobs) ∙ one))));

@@ -3,6 +3,7 @@ pub mod Judge
 pub mod Numbers
 pub mod Marks
 pub mod Survey
+pub mod Factors
 pub mod Waits
 pub mod Goals
 pub mod Verdict

@@ -1,7 +1,7 @@
 -- The pass over the records: what each is given by itself, what is noted of it, and what that then says of all records.
 use mathlib.Core.Path.{_≡_}
 use mathlib.Core.Bool.{Bool, true, false, cond, not, _||_}
-use mathlib.Core.List.{List, [], _∷_, _++_, map}
+use mathlib.Core.List.{List, [], _∷_, _++_, map, headD}
 use mathlib.Core.Option.{Option, none, some}
 use Prim.Native.Nat.{ℕ, _+_, _*_, _^_, _≤_, _<_, min}
 use lib.Dec.{ltb, leb, eqb}
@@ -11,14 +11,14 @@ use Rattle.judge.specs.Numbers.{noNumber, numberOr}
 use Rattle.judge.specs.Marks.{markOf, firstMark, marked, markedBy}
 use Rattle.map.specs.declared.record as declared
 use Rattle.map.specs.declared.record.Item.{Item}
-use Rattle.map.specs.declared.record.Item.the-variants.{Head, Lane, Measured, Estimate, Wait, Job, Misfit, Other}
-use Rattle.map.specs.Items.{jobOf}
+use Rattle.map.specs.declared.record.Item.the-variants.{Head, Lane, Measured, Estimate, Wait, Factors, Job, Misfit, Other}
+use Rattle.map.specs.Items.{jobOf, tableAt, TableLies}
 use Rattle.model.specs.Framing.{Record, frame}
 use Rattle.model.specs.Items as model
 use Rattle.model.specs.Limits.{maxPlaces, maxEstimate, maxLength, maxClass}
 use Rattle.model.specs.Lists.{any, isGiven, filterMap}
 use Rattle.model.specs.Refusals.{Row, row, unknownKind, wrongLength, endsWithJob, formRows, mapRows, firstThatHolds}
-use Rattle.model.specs.Stated.{Stated, noSize, noJob, statedBy, statedIn, lookup}
+use Rattle.model.specs.Stated.{Stated, noSize, noJob, fixedFactors, statedBy, statedIn, lookup}
 
 -- ---- What a record is given by itself
 
@@ -51,6 +51,7 @@ given first n again (Lane l) = laneNumber first n (l .from) (l .to) (costNumber 
 given first n again (Measured l) = laneNumber first n (l .from) (l .to) (measureNumber (l .length) (l .class))
 given first n again (Estimate e) = estimateNumber first n again e
 given first n again (Wait w) = waitNumber first n (w .place)
+given first n again (Factors at) = headless first
 given first n again (Job j) = headless first
 given first n again Misfit = 3
 given first n again Other = 2
@@ -71,6 +72,8 @@ passed s number =
       arcs = s .arcs;
       lanes = s .lanes;
       waits = s .waits;
+      tables = s .tables;
+      «factors_at» = s .«factors_at»;
       jobs = s .jobs;
       «job_last» = false;
       job = s .job;
@@ -85,6 +88,8 @@ opened s z =
       arcs = z .arcs;
       lanes = s .lanes;
       waits = s .waits;
+      tables = s .tables;
+      «factors_at» = s .«factors_at»;
       jobs = s .jobs;
       «job_last» = s .«job_last»;
       job = s .job;
@@ -103,6 +108,8 @@ withLane s from to own =
       arcs = t .arcs;
       lanes = t .lanes + 1;
       waits = t .waits;
+      tables = t .tables;
+      «factors_at» = t .«factors_at»;
       jobs = t .jobs;
       «job_last» = t .«job_last»;
       job = t .job;
@@ -118,6 +125,30 @@ withWait s place =
       arcs = t .arcs;
       lanes = t .lanes;
       waits = t .waits + 1;
+      tables = t .tables;
+      «factors_at» = t .«factors_at»;
+      jobs = t .jobs;
+      «job_last» = t .«job_last»;
+      job = t .job;
+    }
+
+-- a first table, whose factors begin at byte `at`, replaces the fixed one
+abbrev pub firstTable : (tables noted at : ℕ) → ℕ
+firstTable tables noted at = cond (eqb tables 0) at noted
+
+-- second tables and the rules of factors are looked for later
+unfoldable pub withFactors : Survey → ℕ → Survey
+withFactors s at =
+    let t = passed s (headless (eqb (s .records) 0)) in
+    record {
+      number = t .number;
+      records = t .records;
+      places = t .places;
+      arcs = t .arcs;
+      lanes = t .lanes;
+      waits = t .waits;
+      tables = t .tables + 1;
+      «factors_at» = firstTable (s .tables) (s .«factors_at») at;
       jobs = t .jobs;
       «job_last» = t .«job_last»;
       job = t .job;
@@ -133,6 +164,8 @@ withJob s j =
       arcs = t .arcs;
       lanes = t .lanes;
       waits = t .waits;
+      tables = t .tables;
+      «factors_at» = t .«factors_at»;
       jobs = t .jobs + 1;
       «job_last» = true;
       job = j;
@@ -144,6 +177,7 @@ noted again s (Lane l) = withLane s (l .from) (l .to) (costNumber (l .cost))
 noted again s (Measured l) = withLane s (l .from) (l .to) (measureNumber (l .length) (l .class))
 noted again s (Estimate e) = passed s (estimateNumber (eqb (s .records) 0) (s .places) again e)
 noted again s (Wait w) = withWait s (w .place)
+noted again s (Factors at) = withFactors s at
 noted again s (Job j) = withJob s j
 noted again s Misfit = passed s 3
 noted again s Other = passed s 2
@@ -155,6 +189,7 @@ againIn n marks (Lane l) = false
 againIn n marks (Measured l) = false
 againIn n marks (Estimate e) = marked n marks (e .place)
 againIn n marks (Wait w) = false
+againIn n marks (Factors at) = false
 againIn n marks (Job j) = false
 againIn n marks Misfit = false
 againIn n marks Other = false
@@ -166,6 +201,7 @@ marksBy n marks (Lane l) = marks
 marksBy n marks (Measured l) = marks
 marksBy n marks (Estimate e) = markedBy markOf n marks (e .place) (e .value)
 marksBy n marks (Wait w) = marks
+marksBy n marks (Factors at) = marks
 marksBy n marks (Job j) = marks
 marksBy n marks Misfit = marks
 marksBy n marks Other = marks
@@ -179,6 +215,7 @@ pub record Counted (s : Survey) : Type 0 where
   pub records : s .records < 2 ^ 63
   pub lanes : s .lanes ≤ s .records
   pub waits : s .waits ≤ s .records
+  pub tables : s .tables ≤ s .records
   pub jobs : s .jobs ≤ s .records
   pub places : s .places ≤ maxPlaces
 
@@ -242,6 +279,9 @@ pub record Notes (input : List ℕ) (rs : List Record) (marks : List ℕ) (s : S
   pub arcs : s .arcs ≡ opening (said rs) .arcs
   pub lanes : s .lanes ≡ length (filterMap model.laneIn (said rs))
   pub waits : s .waits ≡ length (filterMap model.waitIn (said rs))
+  pub tables : s .tables ≡ length (filterMap model.factorsIn (said rs))
+  pub factors-lie : TableLies input (s .«factors_at»)
+  pub factors : tableAt input (s .«factors_at») ≡ headD (filterMap model.factorsIn (said rs)) fixedFactors
   pub jobs : s .jobs ≡ length (filterMap model.jobIn (said rs))
   pub job-last : s .«job_last» ≡ endsWithJob (said rs)
   pub job : jobOf input (s .job) ≡ lastJob noJob (said rs)
@@ -268,6 +308,8 @@ atEnd s =
       arcs = s .arcs;
       lanes = s .lanes;
       waits = s .waits;
+      tables = s .tables;
+      «factors_at» = s .«factors_at»;
       jobs = s .jobs;
       «job_last» = s .«job_last»;
       job = s .job;
@@ -283,6 +325,9 @@ pub record Stating (input : List ℕ) (marks : List ℕ) (s : Survey) : Type 0 w
   pub arcs : s .arcs ≡ statedIn input .size .arcs
   pub lanes : s .lanes ≡ length (statedIn input .lanes)
   pub waits : s .waits ≡ length (statedIn input .waits)
+  pub tables : s .tables ≡ length (filterMap model.factorsIn (model.items (frame input .records)))
+  pub factors-lie : TableLies input (s .«factors_at»)
+  pub factors : tableAt input (s .«factors_at») ≡ statedIn input .factors
   pub jobs : s .jobs ≡ length (filterMap model.jobIn (model.items (frame input .records)))
   pub job-last : s .«job_last» ≡ endsWithJob (model.items (frame input .records))
   pub job : s .jobs ≡ 1 → jobOf input (s .job) ≡ statedIn input .job

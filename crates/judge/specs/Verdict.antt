@@ -8,12 +8,12 @@ use lib.ListN.{length}
 use Rattle.judge.specs.declared.survey.Survey.{Survey}
 use Rattle.judge.specs.Numbers.{noNumber, numberOr}
 use Rattle.judge.specs.Survey.{placed, MarksTell, Stating}
-use Rattle.map.specs.Items.{jobOf}
+use Rattle.map.specs.Items.{jobOf, tableAt, TableLies}
 use Rattle.model.specs.Framing.{frame}
 use Rattle.model.specs.Items.{items}
 use Rattle.model.specs.Limits.{maxPlaces, maxGoals}
-use Rattle.model.specs.Refusals.{wrongJob, formRows, mapRows, costRows, jobRows, firstThatHolds, firstOf, inputRefusal}
-use Rattle.model.specs.Stated.{statedIn}
+use Rattle.model.specs.Refusals.{wrongJob, formRows, mapRows, factorRows, costRows, jobRows, firstThatHolds, firstOf, inputRefusal}
+use Rattle.model.specs.Stated.{IsTable, statedIn}
 
 abbrev pub goalsWrong : ℕ → Bool → Bool
 goalsWrong k falls = ltb k 1 || ltb maxGoals k || falls
@@ -35,13 +35,24 @@ pub record RightMap (input : List ℕ) (marks : List ℕ) (s : Survey) : Type 0 
   pub few : s .places ≤ maxPlaces
   pub states : Stating input marks s
   pub number : inputRefusal (frame input)
+      ≡ firstOf (firstThatHolds (factorRows (items (frame input .records))))
+      (firstOf (firstThatHolds (costRows (statedIn input))) (firstThatHolds (jobRows (items (frame input .records)) (statedIn input))))
+
+-- and not 22 either, so that these factors are in force
+pub record RightFactors (input : List ℕ) (marks : List ℕ) (s : Survey) (factors : List ℕ) : Type 0 where
+  pub right : RightMap input marks s
+  pub in-force : factors ≡ statedIn input .factors
+  pub table : IsTable (statedIn input .factors)
+  pub number : inputRefusal (frame input)
       ≡ firstOf (firstThatHolds (costRows (statedIn input))) (firstThatHolds (jobRows (items (frame input .records)) (statedIn input)))
 
--- none of 1 to 10, 20 and 21 holds: the one job is the last record
+-- none of 1 to 10 and 20 to 22 holds: the one job is the last record
 pub record OneJob (input : List ℕ) (marks : List ℕ) (s : Survey) : Type 0 where
   pub places : s .places ≡ statedIn input .size .places
   pub few : s .places ≤ maxPlaces
   pub arcs : s .arcs ≡ statedIn input .size .arcs
+  pub factors-lie : TableLies input (s .«factors_at»)
+  pub factors : tableAt input (s .«factors_at») ≡ statedIn input .factors
   pub job : jobOf input (s .job) ≡ statedIn input .job
   pub goals-end : s .job .«goals_at» + 2 * s .job .goals ≡ length input
   pub estimated : MarksTell input marks (s .places)

@@ -7,7 +7,7 @@ use Prim.Native.Nat.{ℕ, _+_, _-_, _≤_, _<_}
 use lib.Dec.{ltb, eqb}
 use lib.ListN.{length, getD, set}
 use Rattle.model.specs.Framing.{frame}
-use Rattle.model.specs.Items.{Lane, PlaceValue, Item, head, lane, estimate, job, wait, other, laneIn, waitIn}
+use Rattle.model.specs.Items.{Lane, PlaceValue, Item, head, lane, estimate, job, wait, ownFactors, other, laneIn, waitIn}
 use Rattle.model.specs.Limits.{maxPlaces, maxCost}
 use Rattle.model.specs.Lists.{any, filterMap, repeats}
 use Rattle.model.specs.Refusals.{wrongLength, mismeasured, placesIn}
@@ -22,7 +22,7 @@ noteOf x = x + 1
 abbrev pub waitNoted : ℕ → ℕ
 waitNoted x = x - 1
 
--- what is known of an input of which none of 1 to 9 and 20 holds
+-- what is known of an input of which none of 1 to 9, 20 and 22 holds
 pub record Fitting (input : List ℕ) : Type 0 where
   pub lengths : wrongLength (frame input .records) ≡ false
   pub few : statedIn input .size .places ≤ maxPlaces
@@ -44,6 +44,7 @@ notedBy (lane l) noted = noted
 notedBy (estimate e) noted = noted
 notedBy (job j) noted = noted
 notedBy (wait w) noted = cond (eqb (getD noted (w .place) 0) 0) (set noted (w .place) (noteOf (w .value))) noted
+notedBy (ownFactors fs) noted = noted
 notedBy other noted = noted
 
 -- its place has a wait already
@@ -53,6 +54,7 @@ noteAgain (lane l) noted = false
 noteAgain (estimate e) noted = false
 noteAgain (job j) noted = false
 noteAgain (wait w) noted = not (eqb (getD noted (w .place) 0) 0)
+noteAgain (ownFactors fs) noted = false
 noteAgain other noted = false
 
 pub record NotedItem (i : Item) (noted₀ : List ℕ) (again : Bool) (noted : List ℕ) : Type 0 where
@@ -86,6 +88,7 @@ tooDear factors noted (lane l) = exceeds noted (l .from) (costUnder factors (l .
 tooDear factors noted (estimate e) = false
 tooDear factors noted (job j) = false
 tooDear factors noted (wait w) = false
+tooDear factors noted (ownFactors fs) = false
 tooDear factors noted other = false
 
 pub record CanWeigh (factors : List ℕ) (i : Item) (noted : List ℕ) : Type 0 where

@@ -1,4 +1,5 @@
-// Judges an input: the first of the papers' numbers 1 to 13, 20 and 21 whose condition holds, or what an accepted input states.
+// Judges an input: the first of the papers' numbers 1 to 13 and 20 to 22 whose condition holds, or what an accepted input states.
+mod factors;
 mod goals;
 mod marks;
 mod numbers;

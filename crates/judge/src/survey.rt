@@ -12,7 +12,7 @@ use map::record::Size;
 ghost use mathlib.Core.Path.{_≡_};
 ghost use Rattle.judge.specs.Marks.{Clear};
 ghost use Rattle.judge.specs.Survey.{fewPlaces, costNumber, measureNumber, laneNumber, estimateNumber, waitNumber, headless};
-ghost use Rattle.judge.specs.Survey.{passed, withHead, withLane, withWait, withJob, atEnd, Counted, Noted, Surveyed};
+ghost use Rattle.judge.specs.Survey.{firstTable, passed, withHead, withLane, withWait, withFactors, withJob, atEnd, Counted, Noted, Surveyed};
 
 pub struct Survey {
     // The least number that a record was given, NONE where none was.
@@ -23,6 +23,9 @@ pub struct Survey {
     pub arcs: usize,
     pub lanes: usize,
     pub waits: usize,
+    // The records that state factors, and where the factors of the first begin, 0 where there is none.
+    pub tables: usize,
+    pub factors_at: usize,
     pub jobs: usize,
     pub job_last: bool,
     // The last job.
@@ -160,6 +163,26 @@ fn with_wait(s: Survey, place: usize) -> Survey
     t
 }
 
+// Where the factors in force begin, with one more table, whose factors begin at byte `at`: a first one replaces the fixed ones.
+fn first_table(tables: usize, factors_at: usize, at: usize) -> usize
+    ensures { λ r. ⌜ r ≡ firstTable tables «factors_at» at ⌝ }
+{
+    if tables == 0 {
+        return at;
+    }
+    factors_at
+}
+
+fn with_factors(s: Survey, at: usize) -> Survey
+    requires { ⌜ Counted s ⌝ }
+    ensures { λ t. ⌜ t ≡ withFactors s at ⌝ }
+{
+    let mut t = after(s, headless(s.records == 0));
+    t.tables += 1;
+    t.factors_at = first_table(s.tables, s.factors_at, at);
+    t
+}
+
 fn with_job(s: Survey, job: JobFields) -> Survey
     requires { ⌜ Counted s ⌝ }
     ensures { λ t. ⌜ t ≡ withJob s job ⌝ }
@@ -186,6 +209,7 @@ fn with_item(s: Survey, item: Item, marks: &mut [u8; Map::PLACES]) -> Survey
         ),
         Item::Estimate(e) => with_estimate(s, e, marks),
         Item::Wait(w) => with_wait(s, w.place),
+        Item::Factors(at) => with_factors(s, at),
         Item::Job(job) => with_job(s, job),
         Item::Misfit => after(s, number::WRONG_LENGTH),
         Item::Other => after(s, number::UNKNOWN_KIND),
@@ -215,6 +239,8 @@ pub fn of(input: &[u8], marks: &mut [u8; Map::PLACES]) -> Survey
         arcs: 0,
         lanes: 0,
         waits: 0,
+        tables: 0,
+        factors_at: 0,
         jobs: 0,
         job_last: false,
         job: JobFields {

@@ -1,5 +1,6 @@
 // The judgement of an input: the lowest number whose condition holds, or what its records state.
 use crate::Judgement;
+use crate::factors;
 use crate::goals;
 use crate::numbers;
 use crate::survey;
@@ -10,9 +11,10 @@ use map::Map;
 use map::NewMap;
 use map::Site;
 use map::number;
+use map::record;
 ghost use mathlib.Core.Path.{_≡_};
 ghost use Rattle.judge.specs.Judge.{Judged};
-ghost use Rattle.judge.specs.Verdict.{goalsWrong, goalsNumber, Formed, RightMap, OneJob};
+ghost use Rattle.judge.specs.Verdict.{goalsWrong, goalsNumber, Formed, RightMap, RightFactors, OneJob};
 
 // The growth of a map without a record for it.
 const GROWTH: u32 = 2;
@@ -57,21 +59,38 @@ fn judge_job(input: &[u8], s: Survey, marks: &[u8; Map::PLACES]) -> Judgement
         start: job.start,
         growth: GROWTH,
     };
-    Judgement::Accepted(Job::new(site, job.allowance, job.goals, job.goals_at))
+    Judgement::Accepted(Job::new(site, job.allowance, job.goals, job.goals_at, s.factors_at))
 }
 
-// Judges an input whose records have none of the numbers 1 to 9 and 20.
-fn judge_costs(input: &[u8], s: Survey, marks: &[u8; Map::PLACES]) -> Judgement
-    requires { ⌜ RightMap (now input) (now marks) s ⌝ }
+// Judges an input whose records have none of the numbers 1 to 9, 20 and 22, and whose factors these are.
+fn judge_costs(
+    input: &[u8],
+    s: Survey,
+    marks: &[u8; Map::PLACES],
+    factors: &[u32; Map::CLASS + 1],
+) -> Judgement
+    requires { ⌜ RightFactors (now input) (now marks) s (now factors) ⌝ }
     ensures { λ r. ⌜ Judged (now (input .entry)) r ⌝ }
 {
-    if waits::wrong(input, s.waits) {
+    if waits::wrong(input, s.waits, factors) {
         return Judgement::Refused(number::WRONG_WAIT);
     }
     if (s.jobs != 1) | !s.job_last {
         return Judgement::Refused(number::WRONG_JOB);
     }
     judge_job(input, s, marks)
+}
+
+// Judges an input whose records have none of the numbers 1 to 9 and 20.
+fn judge_factors(input: &[u8], s: Survey, marks: &[u8; Map::PLACES]) -> Judgement
+    requires { ⌜ RightMap (now input) (now marks) s ⌝ }
+    ensures { λ r. ⌜ Judged (now (input .entry)) r ⌝ }
+{
+    let factors = record::factors(input, s.factors_at);
+    if (1 < s.tables) | factors::break_rules(&factors) {
+        return Judgement::Refused(number::WRONG_FACTORS);
+    }
+    judge_costs(input, s, marks, &factors)
 }
 
 // Judges an input whose records have none of the numbers 1 to 4.
@@ -88,7 +107,7 @@ fn judge_map(input: &[u8], s: Survey, marks: &[u8; Map::PLACES]) -> Judgement
     if s.number != numbers::NONE {
         return Judgement::Refused(s.number);
     }
-    judge_costs(input, s, marks)
+    judge_factors(input, s, marks)
 }
 
 pub fn judge(input: &[u8]) -> Judgement

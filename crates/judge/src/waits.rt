@@ -76,6 +76,7 @@ fn too_dear(item: Item, factors: &[u32; Map::CLASS + 1], noted: &[u32; Map::PLAC
         Item::Head(_)
         | Item::Estimate(_)
         | Item::Wait(_)
+        | Item::Factors(_)
         | Item::Job(_)
         | Item::Misfit
         | Item::Other => false,
@@ -99,9 +100,9 @@ fn any_too_dear(input: &[u8], factors: &[u32; Map::CLASS + 1], noted: &[u32; Map
     }
 }
 
-// The input has so many waits.
-pub fn wrong(input: &[u8], waits: usize) -> bool
-    requires { ⌜ Fitting (now input) × (waits ≡ length (statedIn (now input) .waits)) ⌝ }
+// The input has so many waits, and these are its factors.
+pub fn wrong(input: &[u8], waits: usize, factors: &[u32; Map::CLASS + 1]) -> bool
+    requires { ⌜ Fitting (now input) × (waits ≡ length (statedIn (now input) .waits)) × (now factors ≡ statedIn (now input) .factors) ⌝ }
     ensures { λ r. ⌜ r ≡ wrongWait (statedIn (now (input .entry))) ⌝ }
 {
     if waits == 0 {
@@ -109,6 +110,5 @@ pub fn wrong(input: &[u8], waits: usize) -> bool
     }
     let mut noted = [0u32; Map::PLACES];
     let twice = note_all(input, &mut noted);
-    let factors = Map::fixed_factors();
-    twice | any_too_dear(input, &factors, &noted)
+    twice | any_too_dear(input, factors, &noted)
 }

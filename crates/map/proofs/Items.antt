@@ -12,9 +12,9 @@ use borrow.Author.Tests.{eq-eqb, ne-eqb, eqb-true, eqb-false, ltb-true, ltb-fals
 use Rattle.map.specs.declared.record as declared
 use Rattle.map.specs.declared.record.Record.{Record}
 use Rattle.map.specs.declared.record.Item.{Item}
-use Rattle.map.specs.declared.record.Item.the-variants.{Head, Lane, Measured, Estimate, Wait, Job, Misfit, Other}
+use Rattle.map.specs.declared.record.Item.the-variants.{Head, Lane, Measured, Estimate, Wait, Factors, Job, Misfit, Other}
 use Rattle.map.specs.Records.{recordIn}
-use Rattle.map.specs.Items.{sizeAt, estimateAt, waitBodyAt, jobAt, isMisfit, laneMeant, measuredMeant, jobOf, meant, endBy}
+use Rattle.map.specs.Items.{sizeAt, estimateAt, waitBodyAt, jobAt, isMisfit, laneMeant, measuredMeant, jobOf, meant, startBy, endBy}
 use Rattle.map.specs.Items.{LiesIn, FitsIn, Says}
 use Rattle.map.proofs.Parts.{u16-drop, u32-drop, u16-part, u32-part, u16s-part}
 use Rattle.model.specs.Bytes.{u16, u32}
@@ -22,8 +22,8 @@ use Rattle.model.specs.Framing as framing
 use Rattle.model.specs.Items as model
 use Rattle.model.proofs.Bytes.{u16s-length}
 use Rattle.model.proofs.Lists.{neither, both}
-use Rattle.model.proofs.Items.{KindOf, is-head, is-lane, is-measured, is-estimate, is-wait, is-job, is-other, kind-of}
-use Rattle.model.proofs.Items.{head-item, lane-item, measured-item, estimate-item, wait-item, job-item, other-item}
+use Rattle.model.proofs.Items.{KindOf, is-head, is-lane, is-measured, is-estimate, is-wait, is-factors, is-job, is-other, kind-of}
+use Rattle.model.proofs.Items.{head-item, lane-item, measured-item, estimate-item, wait-item, factors-item, job-item, other-item}
 
 -- the fields of a body that begins at byte `at`, in the input
 module _ (input : List ℕ) (at : ℕ) where
@@ -75,12 +75,15 @@ both-are k kind n size e = let are = both (eqb k kind) (eqb n size) e in (eqb-tr
 not-both : (k kind n size : ℕ) → eqb k kind && eqb n size ≡ false → k ≡ kind → n ≢ size
 not-both k kind n size e p q = true≢false (rw (eq-eqb k kind p, eq-eqb n size q) at e)
 
--- the kinds from 1 to 6 are the papers'
+-- the kinds from 1 to 7 are the papers'
 first-kinds : (k : ℕ) → model.headKind ≤ k → k ≢ model.headKind → k ≢ model.arcKind → k ≢ model.estimateKind → model.jobKind ≤ k
 first-kinds k low a b c = omega (arith, a, b, c)
 
-last-kinds : (k : ℕ) → model.jobKind ≤ k → k ≤ model.waitKind → k ≢ model.jobKind → k ≢ model.measuredKind → k ≢ model.waitKind → ⊥
-last-kinds k low high a b c = omega (arith, a, b, c)
+later-kinds : (k : ℕ) → model.jobKind ≤ k → k ≢ model.jobKind → k ≢ model.measuredKind → model.waitKind ≤ k
+later-kinds k low a b = omega (arith, a, b)
+
+last-kinds : (k : ℕ) → model.waitKind ≤ k → k ≤ model.factorsKind → k ≢ model.waitKind → k ≢ model.factorsKind → ⊥
+last-kinds k low high a b = omega (arith, a, b)
 
 module _ (input : List ℕ) (r : Record) (lies : LiesIn input r) where
   abbrev whole : framing.Record
@@ -98,14 +101,14 @@ module _ (input : List ℕ) (r : Record) (lies : LiesIn input r) where
 
   -- a body of another length than its kind has
   misfit-says : (i : model.Item) (n : ℕ) → model.itemOf whole ≡ i → model.bodyLength i ≡ some n → len ≢ n → Says input r Misfit
-  unfolding isMisfit endBy
+  unfolding isMisfit startBy endBy
   misfit-says i n is long h =
-      record { misfit = misfits-by i n is long ∙ rw (ne-eqb len n h); item = λ e. absurd (true≢false e); ends = refl }
+      record { misfit = misfits-by i n is long ∙ rw (ne-eqb len n h); item = λ e. absurd (true≢false e); begins = refl; ends = refl }
 
   fitting-says : (i : Item) (n : ℕ) → model.itemOf whole ≡ meant input i → model.bodyLength (meant input i) ≡ some n → len ≡ n
-      → isMisfit i ≡ false → endBy r i ≡ r .end → Says input r i
-  fitting-says i n is long h fits ends =
-      record { misfit = misfits-by (meant input i) n is long ∙ rw (eq-eqb len n h, fits); item = λ e. is; ends = ends }
+      → isMisfit i ≡ false → startBy r i ≡ r .start → endBy r i ≡ r .end → Says input r i
+  fitting-says i n is long h fits begins ends =
+      record { misfit = misfits-by (meant input i) n is long ∙ rw (eq-eqb len n h, fits); item = λ e. is; begins = begins; ends = ends }
 
   -- a record of this kind and length
   abbrev Fits : ℕ → ℕ → Type 0
@@ -121,13 +124,13 @@ module _ (input : List ℕ) (r : Record) (lies : LiesIn input r) where
 
   -- a head of four bytes
   pub head-says : Fits model.headKind model.headBytes → Says input r (Head (sizeAt input (r .start)))
-  unfolding model.headOf model.bodyLength meant isMisfit endBy
+  unfolding model.headOf model.bodyLength meant isMisfit startBy endBy
   head-says fits =
       let (kind, h) = both-are (r .kind) model.headKind len model.headBytes fits in
       let field = u16-part input (r .start) len in
       let places = field 0 (r .start + 0) (omega arith) refl in
       let arcs = field 2 (r .start + 2) (omega arith) refl in
-      rw (size-at input (r .start)) (fitting-says (Head _) _ (head-item whole kind ∙ rw (places, arcs)) refl h refl (omega arith))
+      rw (size-at input (r .start)) (fitting-says (Head _) _ (head-item whole kind ∙ rw (places, arcs)) refl h refl refl (omega arith))
 
   -- an arc of six
   lane-body : len ≡ model.arcBytes → model.laneOf (whole .body) ≡ model.laneOf (drop (r .start) input)
@@ -141,10 +144,10 @@ module _ (input : List ℕ) (r : Record) (lies : LiesIn input r) where
 
   pub lane-says : Fits model.arcKind model.arcBytes → (l : declared.Lane.Lane) → laneMeant l ≡ model.laneOf (drop (r .start) input)
       → Says input r (Lane l)
-  unfolding model.bodyLength model.chargeBytes meant isMisfit endBy
+  unfolding model.bodyLength model.chargeBytes meant isMisfit startBy endBy
   lane-says fits l is =
       let (kind, h) = both-are (r .kind) model.arcKind len model.arcBytes fits in
-      fitting-says (Lane l) _ (lane-item whole kind ∙ ap model.lane (lane-body h ∙ sym is)) refl h refl (omega arith)
+      fitting-says (Lane l) _ (lane-item whole kind ∙ ap model.lane (lane-body h ∙ sym is)) refl h refl refl (omega arith)
 
   -- an arc of eight, with a length and a class
   measured-body : len ≡ model.measuredBytes → model.measuredOf (whole .body) ≡ model.measuredOf (drop (r .start) input)
@@ -159,29 +162,37 @@ module _ (input : List ℕ) (r : Record) (lies : LiesIn input r) where
 
   pub measured-says : Fits model.measuredKind model.measuredBytes → (l : declared.MeasuredLane.MeasuredLane)
       → measuredMeant l ≡ model.measuredOf (drop (r .start) input) → Says input r (Measured l)
-  unfolding model.bodyLength model.chargeBytes meant isMisfit endBy
+  unfolding model.bodyLength model.chargeBytes meant isMisfit startBy endBy
   measured-says fits l is =
       let (kind, h) = both-are (r .kind) model.measuredKind len model.measuredBytes fits in
-      fitting-says (Measured l) _ (measured-item whole kind ∙ ap model.lane (measured-body h ∙ sym is)) refl h refl (omega arith)
+      fitting-says (Measured l) _ (measured-item whole kind ∙ ap model.lane (measured-body h ∙ sym is)) refl h refl refl (omega arith)
 
   -- an estimate of six
   pub estimate-says : Fits model.estimateKind model.estimateBytes → Says input r (Estimate (estimateAt input (r .start)))
-  unfolding model.estimateOf model.bodyLength meant isMisfit endBy
+  unfolding model.estimateOf model.bodyLength meant isMisfit startBy endBy
   estimate-says fits =
       let (kind, h) = both-are (r .kind) model.estimateKind len model.estimateBytes fits in
       let place = u16-part input (r .start) len 0 (r .start + 0) (omega arith) refl in
       let value = u32-part input (r .start) len 2 (r .start + 2) (omega arith) refl in
-      rw (estimate-at input (r .start)) (fitting-says (Estimate _) _ (estimate-item whole kind ∙ rw (place, value)) refl h refl (omega arith))
+      rw (estimate-at input (r .start)) (fitting-says (Estimate _) _ (estimate-item whole kind ∙ rw (place, value)) refl h refl refl (omega arith))
 
   -- a wait of four
   pub wait-says : Fits model.waitKind model.waitBytes → Says input r (Wait (waitBodyAt input (r .start)))
-  unfolding model.waitOf model.bodyLength meant isMisfit endBy
+  unfolding model.waitOf model.bodyLength meant isMisfit startBy endBy
   wait-says fits =
       let (kind, h) = both-are (r .kind) model.waitKind len model.waitBytes fits in
       let field = u16-part input (r .start) len in
       let place = field 0 (r .start + 0) (omega arith) refl in
       let value = field 2 (r .start + 2) (omega arith) refl in
-      rw (wait-at input (r .start)) (fitting-says (Wait _) _ (wait-item whole kind ∙ rw (place, value)) refl h refl (omega arith))
+      rw (wait-at input (r .start)) (fitting-says (Wait _) _ (wait-item whole kind ∙ rw (place, value)) refl h refl refl (omega arith))
+
+  -- factors of sixteen
+  pub factors-says : Fits model.factorsKind model.factorsBytes → Says input r (Factors (r .start))
+  unfolding model.factorsOf model.bodyLength meant isMisfit startBy endBy
+  factors-says fits =
+      let (kind, h) = both-are (r .kind) model.factorsKind len model.factorsBytes fits in
+      let factors = u16s-part input (r .start) len 8 0 (r .start) (omega arith) (omega arith) in
+      fitting-says (Factors _) _ (factors-item whole kind ∙ rw factors) refl h refl refl (omega arith)
 
   -- a job of eight, and of two more for each goal
   module _ (kind : r .kind ≡ model.jobKind) where
@@ -198,7 +209,7 @@ module _ (input : List ℕ) (r : Record) (lies : LiesIn input r) where
       goals = u16 input (r .start + 6);
       «goals_at» = r .start + model.jobBytes;
     } → model.jobBytes ≤ len → len ≡ model.jobBytes + 2 * u16 input (r .start + 6) → Says input r (Job fields)
-    unfolding model.jobOf model.bodyLength meant jobOf isMisfit endBy
+    unfolding model.jobOf model.bodyLength meant jobOf isMisfit startBy endBy
     job-fits fields are long exact =
         let start = u16-part input (r .start) len 0 (r .start + 0) (omega arith) refl in
         let allowance = u32-part input (r .start) len 2 (r .start + 2) (omega arith) refl in
@@ -207,7 +218,7 @@ module _ (input : List ℕ) (r : Record) (lies : LiesIn input r) where
         let said : model.itemOf whole ≡ meant input (Job fields) = job-item whole kind ∙ rw (start, allowance, count, goals, are) in
         let size : model.bodyLength (meant input (Job fields)) ≡ some len
         = ap model.bodyLength (sym said ∙ job-item whole kind) ∙ job-length ∙ rw (count, ← exact) in
-        fitting-says (Job fields) len said size refl refl (rw are (omega (arith, lies .forward)))
+        fitting-says (Job fields) len said size refl refl refl (rw are (omega (arith, lies .forward)))
 
     pub job-says : Says input r (jobAt input (r .start) len)
     job-says = rw (job-at input (r .start) len) (go (ltb len model.jobBytes) (eqb len (model.jobBytes + 2 * u16 input (r .start + 6))) refl refl)
@@ -230,27 +241,27 @@ module _ (input : List ℕ) (r : Record) (lies : LiesIn input r) where
 
   -- any other kind
   pub other-says : r .kind ≢ model.headKind → r .kind ≢ model.arcKind → r .kind ≢ model.estimateKind → r .kind ≢ model.jobKind
-      → r .kind ≢ model.measuredKind → r .kind ≢ model.waitKind → Says input r Other
-  unfolding model.misfits model.bodyLength model.otherThan meant isMisfit endBy
-  other-says a b c d e f =
-      let is = other-item whole a b c d e f in
-      record { misfit = rw is; item = λ e. is; ends = refl }
+      → r .kind ≢ model.measuredKind → r .kind ≢ model.waitKind → r .kind ≢ model.factorsKind → Says input r Other
+  unfolding model.misfits model.bodyLength model.otherThan meant isMisfit startBy endBy
+  other-says a b c d e f g =
+      let is = other-item whole a b c d e f g in
+      record { misfit = rw is; item = λ e. is; begins = refl; ends = refl }
 
   abbrev outside : Bool
-  outside = ltb (r .kind) model.headKind || ltb model.waitKind (r .kind)
+  outside = ltb (r .kind) model.headKind || ltb model.factorsKind (r .kind)
 
   pub outside-says : outside ≡ true → Says input r Other
-  outside-says out = other-says (apart refl) (apart refl) (apart refl) (apart refl) (apart refl) (apart refl)
+  outside-says out = other-says (apart refl) (apart refl) (apart refl) (apart refl) (apart refl) (apart refl) (apart refl)
     where
-      apart : {k : ℕ} → (ltb k model.headKind || ltb model.waitKind k) ≡ false → r .kind ≢ k
+      apart : {k : ℕ} → (ltb k model.headKind || ltb model.factorsKind k) ≡ false → r .kind ≢ k
       apart inside is = true≢false (sym out ∙ rw is inside)
 
   -- a kind of fixed length, and another length than that
   pub none-fits : outside ≡ false → r .kind ≢ model.jobKind → FitsNot model.headKind model.headBytes → FitsNot model.arcKind model.arcBytes
       → FitsNot model.estimateKind model.estimateBytes → FitsNot model.measuredKind model.measuredBytes → FitsNot model.waitKind model.waitBytes
-      → Says input r Misfit
+      → FitsNot model.factorsKind model.factorsBytes → Says input r Misfit
   unfolding model.bodyLength model.chargeBytes model.laneOf model.measuredOf
-  none-fits inside no-job no-head no-lane no-estimate no-measured no-wait = go (kind-of whole)
+  none-fits inside no-job no-head no-lane no-estimate no-measured no-wait no-factors = go (kind-of whole)
     where
       go : {i : model.Item} → KindOf whole i → Says input r Misfit
       go (is-head k) = misfit-says _ _ (head-item whole k) refl (not-both _ _ _ _ no-head k)
@@ -258,11 +269,12 @@ module _ (input : List ℕ) (r : Record) (lies : LiesIn input r) where
       go (is-measured k) = misfit-says _ _ (measured-item whole k) refl (not-both _ _ _ _ no-measured k)
       go (is-estimate k) = misfit-says _ _ (estimate-item whole k) refl (not-both _ _ _ _ no-estimate k)
       go (is-wait k) = misfit-says _ _ (wait-item whole k) refl (not-both _ _ _ _ no-wait k)
+      go (is-factors k) = misfit-says _ _ (factors-item whole k) refl (not-both _ _ _ _ no-factors k)
       go (is-job k) = absurd (no-job k)
-      go (is-other a b c d e f) =
+      go (is-other a b c d e f g) =
           let range = neither (ltb (r .kind) model.headKind) _ inside in
           let low = first-kinds (r .kind) (ltb-false (r .kind) model.headKind (range .0)) a b c in
-          absurd (last-kinds (r .kind) low (ltb-false model.waitKind (r .kind) (range .1)) d e f)
+          absurd (last-kinds (r .kind) (later-kinds (r .kind) low d e) (ltb-false model.factorsKind (r .kind) (range .1)) f g)
 
 -- a record of a kind that fits has its length
 module _ (input : List ℕ) (r : Record) (can : FitsIn input r) where
@@ -291,3 +303,7 @@ module _ (input : List ℕ) (r : Record) (can : FitsIn input r) where
   pub wait-fits : r .kind ≡ model.waitKind → Fits input r (can .lies) model.waitKind model.waitBytes
   unfolding model.bodyLength
   wait-fits k = fitting _ _ _ (wait-item _ k) refl k
+
+  pub factors-fits : r .kind ≡ model.factorsKind → Fits input r (can .lies) model.factorsKind model.factorsBytes
+  unfolding model.bodyLength
+  factors-fits k = fitting _ _ _ (factors-item _ k) refl k

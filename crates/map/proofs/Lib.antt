@@ -5,3 +5,4 @@ pub mod Records
 pub mod Reading
 pub mod Items
 pub mod Walks
+pub mod Factors

@@ -70,17 +70,19 @@ module _ {S : Type 0} {I : List model.Item → S → Type 0} {input : List ℕ} 
         let fit = next-fits input at r (comes .next) (comes .walk .fit) .1 in
         rw end (record { inside = comes .next .lies .ends; fit = fit; among = later; holds = holds })
 
--- what holds of an item, and for every job alike, holds of it as far as it is the map's
-pub of-map : (input : List ℕ) (P : model.Item → Type 0) → ((j k : model.Job) → P (model.job j) → P (model.job k)) → (i : Item) → P (meant input i) → P (ofMap i)
+-- what holds of an item, and for every job and all factors alike, holds of it as far as the item has it itself
+pub of-map : (input : List ℕ) (P : model.Item → Type 0) → ((j k : model.Job) → P (model.job j) → P (model.job k))
+    → ((fs gs : List ℕ) → P (model.ownFactors fs) → P (model.ownFactors gs)) → (i : Item) → P (meant input i) → P (ofMap i)
 unfolding meant
-of-map input P alike (variants.Head s) p = p
-of-map input P alike (variants.Lane l) p = p
-of-map input P alike (variants.Measured l) p = p
-of-map input P alike (variants.Estimate e) p = p
-of-map input P alike (variants.Wait w) p = p
-of-map input P alike (variants.Job j) p = alike _ _ p
-of-map input P alike variants.Misfit p = p
-of-map input P alike variants.Other p = p
+of-map input P alike also (variants.Head s) p = p
+of-map input P alike also (variants.Lane l) p = p
+of-map input P alike also (variants.Measured l) p = p
+of-map input P alike also (variants.Estimate e) p = p
+of-map input P alike also (variants.Wait w) p = p
+of-map input P alike also (variants.Factors at) p = also _ _ p
+of-map input P alike also (variants.Job j) p = alike _ _ p
+of-map input P alike also variants.Misfit p = p
+of-map input P alike also variants.Other p = p
 
 -- a lane of either kind is the map's
 pub lane-said : {i : Item} {l : declared.Lane.Lane} → i ≡ variants.Lane l → ofMap i ≡ model.lane (laneMeant l)

@@ -2,18 +2,18 @@
 use mathlib.Core.Path.{_≡_}
 use mathlib.Core.Bool.{Bool, true, false, cond, _||_, not}
 use mathlib.Core.List.{List, []}
-use Prim.Native.Nat.{ℕ, _+_, _*_, _≤_}
+use Prim.Native.Nat.{ℕ, zero, suc, _+_, _*_, _≤_}
 use lib.Dec.{ltb, eqb}
 use lib.ListN.{length, drop}
 use Rattle.map.specs.declared.record as declared
 use Rattle.map.specs.declared.record.Item.{Item}
-use Rattle.map.specs.declared.record.Item.the-variants.{Head, Lane, Measured, Estimate, Wait, Job, Misfit, Other}
+use Rattle.map.specs.declared.record.Item.the-variants.{Head, Lane, Measured, Estimate, Wait, Factors, Job, Misfit, Other}
 use Rattle.map.specs.Records.{recordIn}
 use Rattle.model.specs.Bytes.{u16s}
 use Rattle.model.specs.Items as model
 use Rattle.model.specs.Limits.{maxCost}
 use Rattle.model.specs.Refusals.{mismeasured}
-use Rattle.model.specs.Stated.{costUnder}
+use Rattle.model.specs.Stated.{fixedFactors, costUnder}
 
 -- what a body that begins at byte `at` says, in the code's types
 unfoldable pub sizeAt : List ℕ → ℕ → declared.Size.Size
@@ -39,6 +39,7 @@ isMisfit (Lane l) = false
 isMisfit (Measured l) = false
 isMisfit (Estimate e) = false
 isMisfit (Wait w) = false
+isMisfit (Factors at) = false
 isMisfit (Job j) = false
 isMisfit Misfit = true
 isMisfit Other = false
@@ -60,13 +61,22 @@ meant input (Lane l) = model.lane (laneMeant l)
 meant input (Measured l) = model.lane (measuredMeant l)
 meant input (Estimate e) = model.estimate (record { place = e .place; value = e .value })
 meant input (Wait w) = model.wait (record { place = w .place; value = w .value })
+meant input (Factors at) = model.ownFactors (u16s 8 input at)
 meant input (Job j) = model.job (jobOf input j)
 meant input Misfit = model.other
 meant input Other = model.other
 
--- as far as it is the map's: no goal of a job is read
+-- as far as the item has it itself: neither goals nor factors are read
 abbrev pub ofMap : Item → model.Item
 ofMap i = meant [] i
+
+-- the table in force: the factors that begin at this byte, or the fixed ones for 0
+unfoldable pub tableAt : List ℕ → ℕ → List ℕ
+tableAt input zero = fixedFactors
+tableAt input (suc at) = u16s 8 input (suc at)
+
+abbrev pub TableLies : List ℕ → ℕ → Type 0
+TableLies input at = (at ≡ 0 → ⊥) → at + model.factorsBytes ≤ length input
 
 -- a charge that is in range and costs no more than an arc may
 pub record Priced (factors : List ℕ) (c : model.Charge) : Type 0 where
@@ -80,9 +90,22 @@ endBy r (Lane l) = r .start + model.arcBytes
 endBy r (Measured l) = r .start + model.measuredBytes
 endBy r (Estimate e) = r .start + model.estimateBytes
 endBy r (Wait w) = r .start + model.waitBytes
+endBy r (Factors at) = at + model.factorsBytes
 endBy r (Job j) = j .«goals_at» + 2 * j .goals
 endBy r Misfit = r .end
 endBy r Other = r .end
+
+-- where the body begins, by what it says
+unfoldable pub startBy : declared.Record.Record → Item → ℕ
+startBy r (Head s) = r .start
+startBy r (Lane l) = r .start
+startBy r (Measured l) = r .start
+startBy r (Estimate e) = r .start
+startBy r (Wait w) = r .start
+startBy r (Factors at) = at
+startBy r (Job j) = r .start
+startBy r Misfit = r .start
+startBy r Other = r .start
 
 abbrev pub EndsBy : declared.Record.Record → Item → Type 0
 EndsBy r i = endBy r i ≡ r .end
@@ -101,4 +124,5 @@ pub record FitsIn (input : List ℕ) (r : declared.Record.Record) : Type 0 where
 pub record Says (input : List ℕ) (r : declared.Record.Record) (i : Item) : Type 0 where
   pub misfit : model.misfits (recordIn input r) ≡ isMisfit i
   pub item : isMisfit i ≡ false → model.itemOf (recordIn input r) ≡ meant input i
+  pub begins : startBy r i ≡ r .start
   pub ends : EndsBy r i

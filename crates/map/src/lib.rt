@@ -37,7 +37,10 @@ impl Map {
 
     pub const CLASS: usize = 7;
 
-    // The factors of classes 0 to 7: what a lane costs for each foot of its length.
+    // The highest factor.
+    pub const FACTOR: u32 = 16;
+
+    // The fixed factors of classes 0 to 7: what a lane costs for each foot of its length.
     const FACTORS: [u32; Map::CLASS + 1] = [1, 2, 3, 4, 6, 8, 12, 16];
 
     // The bytes of the sheet area that the largest map asks for.
@@ -88,23 +91,27 @@ impl Site {
     }
 }
 
-// An accepted input: what a search is told of it, the allowance, and its goals, `goals` numbers of 2 bytes from byte `goals_at` on.
+// An accepted input: what a search is told of it, the allowance, its goals, `goals` numbers of 2 bytes from byte `goals_at` on, and where its own factors
+// begin, 0 where it has none.
 pub struct Job {
     pub site: Site,
     pub allowance: u32,
     pub goals: usize,
     pub goals_at: usize,
+    pub factors_at: usize,
 }
 
 impl Job {
-    pub fn new(site: Site, allowance: u32, goals: usize, goals_at: usize) -> Self
-        ensures { λ r. ⌜ (r .site ≡ site) × (r .allowance ≡ allowance) × (r .goals ≡ goals) × (r .«goals_at» ≡ «goals_at») ⌝ }
+    pub fn new(site: Site, allowance: u32, goals: usize, goals_at: usize, factors_at: usize) -> Self
+        ensures { λ r. ⌜ (r .site ≡ site) × (r .allowance ≡ allowance) × (r .goals ≡ goals) × (r .«goals_at» ≡ «goals_at»)
+            × (r .«factors_at» ≡ «factors_at») ⌝ }
     {
         Job {
             site,
             allowance,
             goals,
             goals_at,
+            factors_at,
         }
     }
 }

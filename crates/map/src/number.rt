@@ -43,5 +43,7 @@ pub const WRONG_MEASURE: u32 = 20;
 
 pub const WRONG_WAIT: u32 = 21;
 
+pub const WRONG_FACTORS: u32 = 22;
+
 // Every number is below this one.
-pub const END: usize = 22;
+pub const END: usize = 23;

@@ -3,10 +3,12 @@ use crate::Map;
 ghost use mathlib.Core.Path.{_≡_};
 ghost use Prim.Native.Nat.{_+_, _≤_};
 ghost use lib.ListN.{length, drop};
-ghost use Rattle.model.specs.Items.{headBytes, arcBytes, estimateBytes, measuredBytes, waitBytes, laneOf, measuredOf};
+ghost use Rattle.model.specs.Items.{headBytes, arcBytes, estimateBytes, measuredBytes, waitBytes, factorsBytes, laneOf, measuredOf};
+ghost use Rattle.model.specs.Bytes.{u16s};
 ghost use Rattle.model.specs.Stated.{costUnder};
 ghost use Rattle.map.specs.Records.{readAt};
-ghost use Rattle.map.specs.Items.{sizeAt, laneMeant, measuredMeant, estimateAt, waitBodyAt, jobAt, Priced, LiesIn, FitsIn, Says, EndsBy};
+ghost use Rattle.map.specs.Items.{sizeAt, laneMeant, measuredMeant, estimateAt, waitBodyAt, jobAt, tableAt, TableLies, Priced};
+ghost use Rattle.map.specs.Items.{LiesIn, FitsIn, Says, EndsBy};
 
 pub const HEAD_KIND: u16 = 1;
 
@@ -21,8 +23,11 @@ pub const MEASURED_KIND: u16 = 5;
 
 pub const WAIT_KIND: u16 = 6;
 
+// A map's own factors, which replace the fixed ones.
+pub const FACTORS_KIND: u16 = 7;
+
 // The papers' kinds are those from 1 on up to this one.
-const LAST_KIND: u16 = 6;
+const LAST_KIND: u16 = 7;
 
 // The bytes before a record's body: its length and its kind.
 pub const HEADER: usize = 4;
@@ -37,6 +42,8 @@ pub const ESTIMATE_BYTES: usize = 6;
 pub const MEASURED_BYTES: usize = 8;
 
 pub const WAIT_BYTES: usize = 4;
+
+pub const FACTORS_BYTES: usize = 16;
 
 // Where the fields of a head stand in its body.
 const PLACES: usize = 0;
@@ -121,6 +128,8 @@ pub enum Item {
     Measured(MeasuredLane),
     Estimate(PlaceValue),
     Wait(PlaceValue),
+    // The byte at which the factors begin.
+    Factors(usize),
     Job(JobFields),
     Misfit,
     Other,
@@ -246,14 +255,17 @@ pub fn item_of(input: &[u8], r: Record) -> Item
     if r.kind == JOB_KIND {
         return job_at(input, r.start, len);
     }
+    if (r.kind == FACTORS_KIND) & (len == FACTORS_BYTES) {
+        return Item::Factors(r.start);
+    }
     if (r.kind < HEAD_KIND) | (LAST_KIND < r.kind) {
         return Item::Other;
     }
     Item::Misfit
 }
 
-// The same of a record whose length is known to be that of its kind, so that it is not looked at again; but a wait's is, since out of kinds alone the
-// compiler would make a table of jumps.
+// The same of a record whose length is known to be that of its kind, so that it is not looked at again; but that of a wait and of factors is, since out
+// of kinds alone the compiler would make a table of jumps.
 pub fn fitting_item(input: &[u8], r: Record) -> Item
     requires { ⌜ FitsIn (now input) r ⌝ }
     ensures { λ i. ⌜ Says (now (input .entry)) r i ⌝ }
@@ -277,7 +289,35 @@ pub fn fitting_item(input: &[u8], r: Record) -> Item
     if r.kind == JOB_KIND {
         return job_at(input, r.start, len);
     }
+    if (r.kind == FACTORS_KIND) & (len == FACTORS_BYTES) {
+        return Item::Factors(r.start);
+    }
     Item::Other
+}
+
+// The factors that begin at byte `at`, one for each class.
+fn factors_at(input: &[u8], at: usize) -> [u32; Map::CLASS + 1]
+    requires { ⌜ at + factorsBytes ≤ length (now input) ⌝ }
+    ensures { λ r. ⌜ r ≡ u16s 8 (now (input .entry)) at ⌝ }
+{
+    let mut factors = [0u32; Map::CLASS + 1];
+    let mut class = 0;
+    while class < Map::CLASS + 1 {
+        factors[class] = area::wide16(area::u16_at(input, at + class + class));
+        class += 1;
+    }
+    factors
+}
+
+// The table of factors in force: those that begin at byte `at`, or the fixed ones where that is 0, at which no record's body begins.
+pub fn factors(input: &[u8], at: usize) -> [u32; Map::CLASS + 1]
+    requires { ⌜ TableLies (now input) at ⌝ }
+    ensures { λ r. ⌜ r ≡ tableAt (now (input .entry)) at ⌝ }
+{
+    if at == 0 {
+        return Map::fixed_factors();
+    }
+    factors_at(input, at)
 }
 
 // What a lane that is measured costs under a table of factors.
@@ -300,6 +340,6 @@ pub fn end_of(r: Record, item: Item) -> usize
         Item::Measured(_) => r.start + MEASURED_BYTES,
         Item::Estimate(_) => r.start + ESTIMATE_BYTES,
         Item::Wait(_) => r.start + WAIT_BYTES,
-        Item::Head(_) | Item::Job(_) | Item::Misfit | Item::Other => r.end,
+        Item::Head(_) | Item::Factors(_) | Item::Job(_) | Item::Misfit | Item::Other => r.end,
     }
 }

@@ -13,8 +13,9 @@ use Rattle.model.specs.Bytes.{put16}
 use Rattle.model.specs.Framing.{putRecord}
 use Rattle.model.specs.Limits.{maxPlaces}
 use Rattle.model.specs.Items.{estimateKind, waitKind}
-use Rattle.model.specs.Jobs.{putHead, putLane}
+use Rattle.model.specs.Jobs.{putHead, putTable, putLane}
 use Rattle.map.specs.declared.Job.{Job}
+use Rattle.map.specs.Items.{tableAt}
 use Rattle.layout.specs.Regions.{waitsAt, endsAt, estimatesAt, goalsAt, arcsAt}
 use Rattle.sort.specs.Keys.{keysOf, keyFrom}
 use Rattle.lane_rows.specs.Keys.{laneIn}
@@ -90,9 +91,12 @@ by-place-done kind words v h = rw (drop-of-length-le words h)
 
 -- ---- A map
 
--- what is left after the estimates, after the lanes, and after the head
+-- what is left after the waits, after the estimates, after the lanes, and after the head
+unfoldable pub afterWaits : List ℕ → Job → List ℕ → List ℕ
+afterWaits input j w = putTable (tableAt input (j .«factors_at»)) ++ putJobOf input j
+
 unfoldable pub afterEstimates : List ℕ → Job → List ℕ → List ℕ
-afterEstimates input j w = putByPlace waitKind 0 (part (waitsAt (j .site .places)) (endsAt (j .site .places)) w) ++ putJobOf input j
+afterEstimates input j w = putByPlace waitKind 0 (part (waitsAt (j .site .places)) (endsAt (j .site .places)) w) ++ afterWaits input j w
 
 unfoldable pub afterLanes : List ℕ → Job → List ℕ → List ℕ
 afterLanes input j w =
@@ -105,8 +109,14 @@ afterHead input j w =
 
 head-first : (input : List ℕ) (j : Job) (w : List ℕ)
     → Begins (mapText input j w) (putHead (j .site .places) (j .site .arcs)) (afterHead input j w)
-unfolding mapText afterHead afterLanes afterEstimates
+unfolding mapText afterHead afterLanes afterEstimates afterWaits
 head-first input j w = record { split = simp append-assoc }
+
+-- the table comes after the waits
+pub table-next : (input : List ℕ) (j : Job) (w : List ℕ)
+    → Begins (afterWaits input j w) (putTable (tableAt input (j .«factors_at»))) (putJobOf input j)
+unfolding afterWaits
+table-next input j w = record { split = refl }
 
 -- what is put of a part of the words comes next
 pub part-next : (put : List ℕ → List ℕ) (w rest : List ℕ) {first last a e : ℕ} → first ≡ a → last ≡ e

@@ -27,7 +27,7 @@ put-job-length start allowance goals = omega (arith, put16s-length goals)
 -- ---- Fields one after another
 
 -- a record's length and kind
-abbrev header : (bytes kind : ℕ) → List ℕ
+abbrev pub header : (bytes kind : ℕ) → List ℕ
 header bytes kind = put16 bytes ++ put16 kind
 
 pub header-fields : (at bytes kind : ℕ) (old : List ℕ) {s₁ out : List ℕ} {wide : ℕ} → s₁ ≡ sets old at (put16 bytes) → wide ≡ kind

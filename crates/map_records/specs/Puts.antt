@@ -9,8 +9,9 @@ use lib.Seq.{sets}
 use Rattle.model.specs.Bytes.{u16s}
 use Rattle.model.specs.Limits.{maxPlaces, maxArcs, maxGoals}
 use Rattle.model.specs.Items.{estimateKind, waitKind}
-use Rattle.model.specs.Jobs.{putHead, putEstimate, putWait, putJob, putLane}
+use Rattle.model.specs.Jobs.{putHead, putEstimate, putWait, putTable, putJob, putLane}
 use Rattle.map.specs.declared.Job.{Job}
+use Rattle.map.specs.Items.{tableAt, TableLies}
 use Rattle.area.specs.Part.{part}
 use Rattle.layout.specs.Regions.{waitsAt, endsAt, estimatesAt, goalsAt, arcsAt}
 use Rattle.sort.specs.Keys.{keysOf}
@@ -55,6 +56,7 @@ mapText input j w =
     ++ putLanes (part (arcsAt n) (arcsAt n + 2 * m) w)
     ++ putByPlace estimateKind 0 (part (estimatesAt n) (goalsAt n) w)
     ++ putByPlace waitKind 0 (part (waitsAt n) (endsAt n) w)
+    ++ putTable (tableAt input (j .«factors_at»))
     ++ putJobOf input j
 
 -- the job's goals are the rest of the input, and few
@@ -67,5 +69,6 @@ pub record Puttable (input : List ℕ) (j : Job) (w out : List ℕ) : Type 0 whe
   pub few : j .site .places ≤ maxPlaces
   pub few-lanes : j .site .arcs ≤ maxArcs
   pub words : arcsAt (j .site .places) + 2 * j .site .arcs ≤ length w
+  pub factors : TableLies input (j .«factors_at»)
   pub goals : GoalsLast input j
   pub room : Fits (mapText input j w) 0 out

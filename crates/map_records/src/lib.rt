@@ -1,5 +1,6 @@
 // The records of a map, put into the output area one after another.
 use map::Job;
+use map::Map;
 use map::record;
 ghost use mathlib.Core.Path.{_≡_};
 ghost use mathlib.Core.List.{_++_};
@@ -7,8 +8,10 @@ ghost use Prim.Native.Nat.{_+_, _≤_};
 ghost use lib.ListN.{length};
 ghost use lib.Seq.{sets};
 ghost use Rattle.model.specs.Bytes.{put16 as bytes16};
-ghost use Rattle.model.specs.Jobs.{putHead, putArc, putMeasured, putEstimate, putWait, putLane};
+ghost use Rattle.model.specs.Jobs.{putHead, putArc, putMeasured, putEstimate, putWait, putTable, putLane};
 ghost use Rattle.model.specs.Limits.{maxPlaces, maxArcs};
+ghost use Rattle.model.specs.Lists.{sameNumbers};
+ghost use Rattle.map.specs.Items.{tableAt, TableLies};
 ghost use Rattle.sort.specs.Keys.{keyFrom};
 ghost use Rattle.lane_rows.specs.Keys.{laneIn};
 ghost use Rattle.map_records.specs.Puts.{Put, Fits, putLanes, putNonzero, putByPlace, putJobOf, mapText, GoalsLast, Puttable};
@@ -25,6 +28,8 @@ const MEASURED: usize = HEADER + record::MEASURED_BYTES;
 const ESTIMATE: usize = HEADER + record::ESTIMATE_BYTES;
 
 const WAIT: usize = HEADER + record::WAIT_BYTES;
+
+const FACTORS: usize = HEADER + record::FACTORS_BYTES;
 
 const JOB: usize = HEADER + record::GOALS;
 
@@ -162,6 +167,35 @@ fn put_by_place(out: &mut [u8], start: usize, kind: u16, words: &[u32]) -> usize
     at
 }
 
+fn same_factors(a: &[u32; Map::CLASS + 1], b: &[u32; Map::CLASS + 1]) -> bool
+    requires { ⌜ (length (now a) ≡ 8) × (length (now b) ≡ 8) ⌝ }
+    ensures { λ r. ⌜ r ≡ sameNumbers (now (a .entry)) (now (b .entry)) ⌝ }
+{
+    let mut same = true;
+    let mut class = 0;
+    while class < Map::CLASS + 1 {
+        same = same & (a[class] == b[class]);
+        class += 1;
+    }
+    same
+}
+
+// The table of factors that begins at byte `factors_at`, where it is not the fixed one.
+fn put_table(out: &mut [u8], at: usize, input: &[u8], factors_at: usize) -> usize
+    requires { ⌜ TableLies (now input) «factors_at» × Fits (putTable (tableAt (now input) «factors_at»)) at (now out) ⌝ }
+    ensures { λ r. ⌜ Put (putTable (tableAt (now (input .entry)) «factors_at»)) at (now (out .entry)) (now (out .exit)) r ⌝ }
+{
+    let factors = record::factors(input, factors_at);
+    let fixed = Map::fixed_factors();
+    if same_factors(&factors, &fixed) {
+        return at;
+    }
+    put_header(out, at, record::FACTORS_BYTES as u32, record::FACTORS_KIND);
+    let end = factors_at + record::FACTORS_BYTES;
+    area::put_bytes(out, at + HEADER, &input[factors_at..end]);
+    at + FACTORS
+}
+
 // The job; its goals are the rest of the input.
 fn put_job(out: &mut [u8], at: usize, input: &[u8], job: Job) -> usize
     requires { ⌜ GoalsLast (now input) job × Fits (putJobOf (now input) job) at (now out) ⌝ }
@@ -179,7 +213,7 @@ fn put_job(out: &mut [u8], at: usize, input: &[u8], job: Job) -> usize
     at + HEADER + body
 }
 
-// The map that the words hold: lanes in the order of their keys, estimates and waits by place; then the job.
+// The map that the words hold: lanes in the order of their keys, estimates and waits by place; then its factors and the job.
 pub fn put_map(out: &mut [u8], input: &[u8], job: Job, work: &[u32]) -> usize
     requires { ⌜ Puttable (now input) job (now work) (now out) ⌝ }
     ensures { λ r. ⌜ Put (mapText (now (input .entry)) job (now (work .entry))) 0 (now (out .entry)) (now (out .exit)) r ⌝ }
@@ -196,5 +230,6 @@ pub fn put_map(out: &mut [u8], input: &[u8], job: Job, work: &[u32]) -> usize
     let ends = layout::ends_at(places);
     let estimates_end = put_by_place(out, lanes_end, record::ESTIMATE_KIND, &work[first..last]);
     let waits_end = put_by_place(out, estimates_end, record::WAIT_KIND, &work[waits..ends]);
-    put_job(out, waits_end, input, job)
+    let table_end = put_table(out, waits_end, input, job.factors_at);
+    put_job(out, table_end, input, job)
 }

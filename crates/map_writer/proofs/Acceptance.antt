@@ -8,7 +8,7 @@ use borrow.Author.Tests.{ltb-false, le-ltb}
 use Rattle.model.specs.Lists.{any}
 use Rattle.model.specs.Framing.{frame}
 use Rattle.model.specs.Stated.{Stated, statedIn}
-use Rattle.model.specs.Refusals.{workWords, shortWork, formRows, sizeRows, mapRows, costRows, jobRows, inputRows}
+use Rattle.model.specs.Refusals.{workWords, shortWork, formRows, sizeRows, mapRows, factorRows, costRows, jobRows, inputRows}
 use Rattle.model.specs.Refusals.{firstOf, firstThatHolds, holdsAt, inputRefusal}
 use Rattle.model.specs.Answer.{refusedWith}
 use Rattle.model.proofs.Rows.{Numbered, row-fails, input-numbered, groups}
@@ -29,7 +29,7 @@ write-parts input words bytes =
     groups (inputRows (frame input)) (outputRows (statedIn input .size) (length input) words bytes) (input-numbered (frame input))
 
 write-numbered : (input : List ℕ) (words bytes : ℕ) → Numbered (writeRows input words bytes)
-unfolding writeRows outputRows inputRows formRows sizeRows mapRows costRows jobRows any
+unfolding writeRows outputRows inputRows formRows sizeRows mapRows factorRows costRows jobRows any
 write-numbered input words bytes = refl
 
 first-none : (a b : ℕ) → firstOf a b ≡ 0 → a ≡ 0
@@ -43,11 +43,11 @@ module _ (input : List ℕ) (words bytes : ℕ) where
     input-passes = first-none _ _ (sym (write-parts input words bytes) ∙ ok)
 
     pub enough-words : workWords (statedIn input .size) ≤ words
-    unfolding writeRefusal writeRows outputRows inputRows formRows sizeRows mapRows costRows jobRows holdsAt shortWork
+    unfolding writeRefusal writeRows outputRows inputRows formRows sizeRows mapRows factorRows costRows jobRows holdsAt shortWork
     enough-words = ltb-false words _ (row-fails (writeRows input words bytes) (write-numbered input words bytes) ok 14)
 
     pub enough-bytes : length input ≤ bytes
-    unfolding writeRefusal writeRows outputRows inputRows formRows sizeRows mapRows costRows jobRows holdsAt shortOutput
+    unfolding writeRefusal writeRows outputRows inputRows formRows sizeRows mapRows factorRows costRows jobRows holdsAt shortOutput
     enough-bytes = ltb-false bytes _ (row-fails (writeRows input words bytes) (write-numbered input words bytes) ok 15)
 
   pub writable-by : inputRefusal (frame input) ≡ 0 → workWords (statedIn input .size) ≤ words → length input ≤ bytes → Writable input words bytes

@@ -75,7 +75,7 @@ module _ (input : List ℕ) (j : Job) (work output : List ℕ) (has : HasRoom in
   pub text-bound : length (write (statedIn input)) < 2 ^ 32
   text-bound =
       text-short (statedIn input) (omega (arith, sizes passes .0, has .states .places)) (facts .few-lanes)
-      (few-goals (statedIn input) (input-passing (frame input) number))
+      (few-goals (statedIn input) (input-passing (frame input) number)) (input-passing (frame input) number .table .eight)
 
   -- the lanes are in order in the words w
   module _ (w : List ℕ) (size : length w ≡ length work) (order : InOrder input (j .site) work w) where
@@ -88,6 +88,7 @@ module _ (input : List ℕ) (j : Job) (work output : List ℕ) (has : HasRoom in
           few = sizes passes .0;
           few-lanes = sizes passes .1;
           words = omega (arith, room);
+          factors = has .states .factors-lie;
           goals = record { ends = has .states .goals-end; few = goals };
           room = rw text (omega (arith, written-shorter input number, bytes));
         }

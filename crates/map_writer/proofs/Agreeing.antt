@@ -131,6 +131,7 @@ agree-back s t a =
       lanes = λ l. sym (a .lanes l);
       estimates = λ v. sym (a .estimates v);
       waits = λ v. sym (a .waits v);
+      factors = sym (a .factors);
       job = sym (a .job);
     }
 
@@ -141,6 +142,7 @@ agree-then s t u a b =
       lanes = λ l. a .lanes l ∙ b .lanes l;
       estimates = λ v. a .estimates v ∙ b .estimates v;
       waits = λ v. a .waits v ∙ b .waits v;
+      factors = a .factors ∙ b .factors;
       job = a .job ∙ b .job;
     }
 
@@ -152,6 +154,7 @@ canonical-agrees s inside =
       lanes = λ l. sym (sort-filter (noLater (s .factors)) (sameLane l) (s .lanes));
       estimates = λ v. sym (canonical-estimate s inside v);
       waits = λ v. sym (canonical-wait s inside v);
+      factors = refl;
       job = refl;
     }
 
@@ -171,13 +174,16 @@ canonical-same s t size lanes factors growth job estimates waits i =
       job = job i;
     }
 
-pub agree-canonical : (s t : Stated) → s .factors ≡ t .factors → s .growth ≡ t .growth
+pub agree-canonical : (s t : Stated) → s .growth ≡ t .growth
     → s .size .arcs ≡ length (s .lanes) → t .size .arcs ≡ length (t .lanes) → s .size .places ≤ maxPlaces
     → ((l : Lane) → List·Memᴰ l (s .lanes) → Fit (s .size .places) (s .factors) l)
     → ((l : Lane) → List·Memᴰ l (t .lanes) → Fit (t .size .places) (t .factors) l)
     → Agree s t → canonical s ≡ canonical t
-agree-canonical s t factors growth arcs arcs' few fits fits' a = canonical-same s t size lanes factors growth (a .job) (a .estimates) (a .waits)
+agree-canonical s t growth arcs arcs' few fits fits' a = canonical-same s t size lanes factors growth (a .job) (a .estimates) (a .waits)
   where
+    factors : s .factors ≡ t .factors
+    factors = a .factors
+
     lengths : length (s .lanes) ≡ length (t .lanes)
     lengths =
         ap length (sym (filter-all (s .lanes))) ∙ copies-count (s .lanes) (t .lanes) (a .lanes) (λ l. true) ∙ ap length (filter-all (t .lanes))

@@ -10,7 +10,7 @@ use borrow.Author.Tests.{ltb-false, leb-false, le-ltb, lt-leb, eqb-true, not-fal
 use Rattle.model.specs.Lists.{any, repeats}
 use Rattle.model.specs.Limits.{maxPlaces, maxArcs, maxCost, maxEstimate, maxGoals}
 use Rattle.model.specs.Items.{Charge, flat, measured, Lane, PlaceValue}
-use Rattle.model.specs.Stated.{Stated, fixedFactors, lookup, costUnder, laneCost, arcOf}
+use Rattle.model.specs.Stated.{Stated, IsTable, lookup, costUnder, laneCost, arcOf}
 use Rattle.model.specs.Refusals.{wrongSize, placesIn, namesOutside, outsideMap, freeArc, largeEstimate, twoEstimates, mismeasured, wrongMeasure}
 use Rattle.model.specs.Refusals.{wrongWait, jobOutsideMap, wrongGoals, goalEstimate}
 use Rattle.model.proofs.Lists.{neither, any-false}
@@ -32,6 +32,7 @@ pub record Passing (s : Stated) : Type 0 where
   pub small : largeEstimate s ≡ false
   pub single : twoEstimates s ≡ false
   pub in-measure : wrongMeasure s ≡ false
+  pub table : IsTable (s .factors)
   pub waits : wrongWait s ≡ false
   pub job-inside : jobOutsideMap s ≡ false
   pub goals : wrongGoals s ≡ false
@@ -152,6 +153,7 @@ module _ (s : Stated) (p : Passing s) where
         small = no-large-estimate;
         single = by-place-single (s .size .places) (s .estimates);
         in-measure = sorted-none _ (p .in-measure);
+        table = p .table;
         waits = cheap-arcs;
         job-inside = p .job-inside;
         goals = p .goals;
@@ -168,9 +170,9 @@ module _ (s : Stated) (p : Passing s) where
 
   -- where its waits and its allowance are numbers of 2 and of 4 bytes
   pub canonical-storable : ((w : PlaceValue) → List·Memᴰ w (s .waits) → w .value < 65536) → s .job .allowance < 2 ^ 32
-      → s .factors ≡ fixedFactors → s .growth ≡ 2 → Storable (canonical s)
+      → s .growth ≡ 2 → Storable (canonical s)
   unfolding canonical wrongMeasure
-  canonical-storable short allowed factors growth =
+  canonical-storable short allowed growth =
       record {
         places = omega (arith, few-places);
         arcs = omega (arith, few-arcs);
@@ -189,6 +191,7 @@ module _ (s : Stated) (p : Passing s) where
             let (place, value) = by-place-member (s .size .places) (s .waits) w i in
             let below = lookup-below (s .waits) 65535 (λ x j. omega (arith, short x j)) (w .place) in
             record { place = omega (arith, few-places); value = omega arith };
+        factors = p .table;
         job =
             record {
               start = omega (arith, few-places, start-inside);
@@ -196,6 +199,5 @@ module _ (s : Stated) (p : Passing s) where
               goals = λ g i. omega (arith, few-places, goal-inside g i);
               few-goals = omega (arith, few-goals);
             };
-        factors = factors;
         growth = growth;
       }

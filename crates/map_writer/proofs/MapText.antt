@@ -27,6 +27,7 @@ use Rattle.map_records.specs.Puts.{putLanes, putValue, putNonzero, putByPlace, 
 use Rattle.map_writer.specs.Steps.{InOrder}
 use Rattle.map_writer.proofs.KeyLaws.{keys-back}
 use Rattle.map_writer.proofs.PlaceValues.{isNonzero, by-place-few}
+use Rattle.map_writer.proofs.WrittenRecords.{tables-few}
 use Rattle.map_writer.proofs.Shorter.{laneBytes, statedBytes, written-length}
 
 -- ---- Numbers by place
@@ -115,7 +116,7 @@ module _ (input : List ℕ) (j : Job) (w₀ w : List ℕ) (states : States input
   text-written =
       let estimates = words-text estimateKind (estimatesAt n) (goalsAt n) (s .estimates) (omega arith) (omega arith) (order .estimates) in
       let waits = words-text waitKind (waitsAt n) (endsAt n) (s .waits) (omega arith) (omega arith) (order .waits) in
-      rw (lanes-text, estimates, waits, states .goals, states .start, states .allowance, states .places, states .arcs)
+      rw (lanes-text, estimates, waits, states .factors, states .goals, states .start, states .allowance, states .places, states .arcs)
 
 -- ---- Its length is a number of 32 bits
 
@@ -129,10 +130,11 @@ lane-bytes-below (l ∷ ls) = go (l .charge) (lane-bytes-below ls)
     go (measured length class) rest = omega arith
 
 pub text-short : (s : Stated) → s .size .places ≤ maxPlaces → length (s .lanes) ≤ maxArcs → length (s .job .goals) ≤ maxGoals
-    → length (write s) < 2 ^ 32
+    → length (s .factors) ≡ 8 → length (write s) < 2 ^ 32
 unfolding statedBytes canonical
-text-short s few few-lanes few-goals =
+text-short s few few-lanes few-goals eight =
     let n = s .size .places in
     let lanes = lane-bytes-below (canonical s .lanes) in
     let sorted = sort-length (noLater (s .factors)) (s .lanes) in
-    omega (arith, written-length s, lanes, sorted, by-place-few n (s .estimates), by-place-few n (s .waits))
+    let tables = tables-few (s .factors) in
+    omega (arith, written-length s eight, lanes, sorted, by-place-few n (s .estimates), by-place-few n (s .waits))

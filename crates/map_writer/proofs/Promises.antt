@@ -17,7 +17,7 @@ use Rattle.model.specs.Refusals.{Row, inputRefusal, workWords}
 use Rattle.model.specs.Answer.{Result, answer, overFront, refusedWith}
 use Rattle.model.specs.Calls.{Call, result, written, Alike, Program, KeepsTo, Keeps}
 use Rattle.model.proofs.Rows.{NoneHolds, first-given, none-given}
-use Rattle.model.proofs.Acceptance.{states-factors, states-growth}
+use Rattle.model.proofs.Acceptance.{states-growth}
 use Rattle.map_writer.specs.Canonical.{canonical, putStated, write}
 use Rattle.map_writer.specs.Agree.{Agree}
 use Rattle.map_writer.specs.Call.{writeRows, writeRefusal, Writable, writtenWith, writeIf, writeMap}
@@ -60,8 +60,8 @@ pub record Rewrites (P R : Program) (c : Call) (r : Result) : Type 0 where
   -- it is no longer than the input, and is accepted where the input was
   pub shorter : length (written r) ≤ length (c .input)
   pub accepted : (words bytes : ℕ) → Writable (c .input) words bytes → Writable (written r) words bytes
-  -- "Reading the result gives the same N, arc records as a collection with repeats, estimates and job"; waits too, as paper 5 has it: the writer's
-  -- "agreement covers them"
+  -- "Reading the result gives the same N, arc records as a collection with repeats, estimates and job"; waits and the factors in force too, as
+  -- paper 5 has it: the writer's "agreement covers them"
   pub agrees : Agree (statedIn (c .input)) (statedIn (written r))
   -- so writing twice is writing once
   pub again : (d : Call) (q : Result) → P d q → d .input ≡ written r → q .answer .number ≡ 0 → written q ≡ written r
@@ -105,9 +105,8 @@ module _ (a b : List ℕ) (A : Bytes a) (B : Bytes b) (p : inputRefusal (frame a
   agree-alike e =
       let x = input-passing (frame a) p in
       let y = input-passing (frame b) q in
-      let factors = states-factors (frame a .records) ∙ sym (states-factors (frame b .records)) in
       let growth = states-growth (frame a .records) ∙ sym (states-growth (frame b .records)) in
-      ap putStated (agree-canonical (statedIn a) (statedIn b) factors growth (counted-arcs _ x) (counted-arcs _ y) (few-places _ x)
+      ap putStated (agree-canonical (statedIn a) (statedIn b) growth (counted-arcs _ x) (counted-arcs _ y) (few-places _ x)
       (stated-fit a p) (stated-fit b q) e)
 
 module _ (P R : Program) (writes : KeepsTo rewritten P) (routes : Keeps R) where

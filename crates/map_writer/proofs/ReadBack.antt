@@ -1,28 +1,31 @@
 -- What is written as records is stated again by them, where its fields fit in their bytes. Assumes nothing.
 use mathlib.Core.Path.{_≡_, refl, sym, ap, ap₂, _∙_}
-use mathlib.Core.Bool.{false, not}
+use mathlib.Core.Bool.{Bool, true, false, cond, not}
 use mathlib.Core.List.{List, [], _∷_, _++_, map, headD, append-nil, List·Memᴰ, List·Memᴰ·head, List·Memᴰ·tail}
 use mathlib.Core.Option.{Option, none, some}
-use Prim.Native.Nat.{ℕ, zero, suc, _^_, _<_}
+use Prim.Native.Nat.{ℕ, zero, suc, _^_, _≤_, _<_}
+use native.Mathlib.Decide.{decLe}
 use native.Mathlib.Omega.{arith}
 use lib.Dec.{eqb}
-use lib.ListN.{length, getD}
+use lib.ListN.{length, getD, List·getD-eq-default}
 use borrow.Author.Tests.{eq-eqb}
-use Rattle.model.specs.Lists.{any, filterMap, consIf}
+use Rattle.model.specs.Lists.{any, filterMap, consIf, sameNumbers}
 use Rattle.model.specs.Bytes.{u16, u32, u16s, put16, put32, put16s}
 use Rattle.model.specs.Framing.{Record, Framed}
-use Rattle.model.specs.Items.{Size, Charge, flat, measured, Lane, PlaceValue, Job, Item, head, lane, estimate, job, wait}
-use Rattle.model.specs.Items.{headOf, laneOf, measuredOf, estimateOf, jobOf, waitOf, itemOf, items, sizeIn, laneIn, estimateIn, jobIn, waitIn}
-use Rattle.model.specs.Items.{chargeBytes, bodyLength, otherThan, misfits}
-use Rattle.model.specs.Stated.{Stated, noJob, statedBy, stated, statedIn}
+use Rattle.model.specs.Items.{Size, Charge, flat, measured, Lane, PlaceValue, Job, Item, head, lane, estimate, job, wait, ownFactors}
+use Rattle.model.specs.Items.{headOf, laneOf, measuredOf, estimateOf, jobOf, waitOf, factorsOf, itemOf, items}
+use Rattle.model.specs.Items.{sizeIn, laneIn, estimateIn, jobIn, waitIn, factorsIn, factorsBytes, chargeBytes, bodyLength, otherThan, misfits}
+use Rattle.model.specs.Stated.{Stated, fixedFactors, IsTable, noJob, statedBy, stated, statedIn}
 use Rattle.model.specs.Refusals.{wrongLength}
 use Rattle.model.proofs.Bytes.{two-bytes, u16-put16, u32-put32, u16s-put16s}
+use Rattle.model.proofs.Lists.{same-numbers}
 use Rattle.model.proofs.Tests.{or-none}
 use Rattle.map_writer.specs.Canonical.{putStated}
 pub use Rattle.map_writer.proofs.WrittenRecords.{StorableCharge, StorableLane, StorableValue, StorableJob, Storable}
-pub use Rattle.map_writer.proofs.WrittenRecords.{headRecord, chargedRecord, laneRecord, estimateRecord, waitRecord, jobRecord, recordsOf}
+pub use Rattle.map_writer.proofs.WrittenRecords.{headRecord, chargedRecord, laneRecord, estimateRecord, waitRecord, factorsRecord, jobRecord}
+pub use Rattle.map_writer.proofs.WrittenRecords.{tablesOf, recordsOf}
 pub use Rattle.map_writer.proofs.WrittenRecords.{put-records, put-framed}
-use Rattle.map_writer.proofs.WrittenRecords.{jobFront, job-length}
+use Rattle.map_writer.proofs.WrittenRecords.{tables-member, factors-length, jobFront, job-length}
 
 -- ---- the fields are read back
 
@@ -52,6 +55,17 @@ wait-read : (w : PlaceValue) → StorableValue 65536 w → itemOf (waitRecord w)
 unfolding waitRecord itemOf waitOf u16 put16
 wait-read w ok = rw (two-bytes (w .place) (ok .place), two-bytes (w .value) (ok .value))
 
+factor-below : (fs : List ℕ) → IsTable fs → (i : ℕ) → getD fs i 0 < 65536
+factor-below fs table i = go (decLe 8 i)
+  where
+    go : Dec (8 ≤ i) → getD fs i 0 < 65536
+    go (yes beyond) = omega (arith, List·getD-eq-default fs 0 {n = i} (omega (arith, table .eight)))
+    go (no within) = omega (arith, table .below i (omega arith))
+
+table-read : (fs : List ℕ) → IsTable fs → itemOf (factorsRecord fs) ≡ ownFactors fs
+unfolding factorsRecord itemOf factorsOf
+table-read fs table = ap ownFactors (rw (append-nil, table .eight) at (u16s-put16s [] fs [] (factor-below fs table)))
+
 members-below : (gs : List ℕ) → ((g : ℕ) → List·Memᴰ g gs → g < 65536) → (i : ℕ) → getD gs i 0 < 65536
 members-below [] h i = omega arith
 members-below (g ∷ gs) h zero = h g (List·Memᴰ·head refl)
@@ -76,7 +90,10 @@ job-read j ok =
 -- ---- what the records say
 
 unfoldable pub itemsOf : Stated → List Item
-itemsOf t = head (t .size) ∷ (map lane (t .lanes) ++ (map estimate (t .estimates) ++ (map wait (t .waits) ++ (job (t .job) ∷ []))))
+itemsOf t =
+    head (t .size)
+    ∷ (map lane (t .lanes)
+    ++ (map estimate (t .estimates) ++ (map wait (t .waits) ++ (map ownFactors (tablesOf (t .factors)) ++ (job (t .job) ∷ [])))))
 
 -- records that each say what g gives, before others that say `is`
 module _ {A : Type 0} (f : A → Record) (g : A → Item) where
@@ -93,7 +110,10 @@ unfolding items recordsOf itemsOf
 items-said t ok =
     let size = size-read (t .size) (ok .places) (ok .arcs) in
     let last : items (jobRecord (t .job) ∷ []) ≡ job (t .job) ∷ [] = rw (job-read (t .job) (ok .job)) in
-    let waits = each-said waitRecord wait (t .waits) (λ w i. wait-read w (ok .waits w i)) _ _ last in
+    let table-said : (fs : List ℕ) → List·Memᴰ fs (tablesOf (t .factors)) → itemOf (factorsRecord fs) ≡ ownFactors fs
+    = λ fs i. table-read fs (rw (tables-member (t .factors) fs i) (ok .factors)) in
+    let tables = each-said factorsRecord ownFactors (tablesOf (t .factors)) table-said _ _ last in
+    let waits = each-said waitRecord wait (t .waits) (λ w i. wait-read w (ok .waits w i)) _ _ tables in
     let estimates = each-said estimateRecord estimate (t .estimates) (λ e i. estimate-read e (ok .estimates e i)) _ _ waits in
     let lanes = each-said laneRecord lane (t .lanes) (λ l i. lane-read l (ok .lanes l i)) _ _ estimates in
     ap₂ {C = List Item} _∷_ size lanes
@@ -106,39 +126,64 @@ module _ {A B : Type 0} (g : A → Item) (f : Item → Option B) (none-of : (x :
   none-taken (x ∷ xs) is = rw (none-of x) (none-taken xs is)
 
 module _ {A : Type 0} (g : A → Item) (f : Item → Option A) (some-of : (x : A) → f (g x) ≡ some x) where
-  all-taken : (xs : List A) (is : List Item) → filterMap f (map g xs ++ is) ≡ xs ++ filterMap f is
+  pub all-taken : (xs : List A) (is : List Item) → filterMap f (map g xs ++ is) ≡ xs ++ filterMap f is
   unfolding filterMap consIf
   all-taken [] is = refl
   all-taken (x ∷ xs) is = rw (some-of x) (ap (λ (ys : List A). x ∷ ys) (all-taken xs is))
 
+-- the table that is written, or the fixed one where none is, is the table
+table-back : (fs : List ℕ) → headD (tablesOf fs) fixedFactors ≡ fs
+unfolding tablesOf headD
+table-back fs = go (sameNumbers fs fixedFactors) refl
+  where
+    go : (same : Bool) → sameNumbers fs fixedFactors ≡ same → headD (cond same [] (fs ∷ [])) fixedFactors ≡ fs
+    go true e = sym (same-numbers fs fixedFactors .0 e)
+    go false e = refl
+
 items-stated : (t : Stated) → Storable t → statedBy (itemsOf t) ≡ t
-unfolding itemsOf statedBy filterMap consIf sizeIn laneIn estimateIn jobIn waitIn headD
+unfolding itemsOf statedBy filterMap consIf sizeIn laneIn estimateIn jobIn waitIn factorsIn headD
 items-stated t ok =
+    let tables : List (List ℕ) = tablesOf (t .factors) in
     let last : List Item = job (t .job) ∷ [] in
-    let ws : List Item = map wait (t .waits) ++ last in
+    let fs : List Item = map ownFactors tables ++ last in
+    let ws : List Item = map wait (t .waits) ++ fs in
     let es : List Item = map estimate (t .estimates) ++ ws in
     let lanes : filterMap laneIn (map lane (t .lanes) ++ es) ≡ t .lanes
     = all-taken lane laneIn (λ l. refl) (t .lanes) es
-    ∙ rw (none-taken estimate laneIn (λ e. refl) (t .estimates) ws, none-taken wait laneIn (λ w. refl) (t .waits) last) (append-nil (t .lanes)) in
+    ∙ rw (
+      none-taken estimate laneIn (λ e. refl) (t .estimates) ws,
+      none-taken wait laneIn (λ w. refl) (t .waits) fs,
+      none-taken ownFactors laneIn (λ x. refl) tables last,
+    ) (append-nil (t .lanes)) in
     let estimates : filterMap estimateIn (map lane (t .lanes) ++ es) ≡ t .estimates
     = none-taken lane estimateIn (λ l. refl) (t .lanes) es
     ∙ all-taken estimate estimateIn (λ e. refl) (t .estimates) ws
-    ∙ rw (none-taken wait estimateIn (λ w. refl) (t .waits) last) (append-nil (t .estimates)) in
+    ∙ rw (
+      none-taken wait estimateIn (λ w. refl) (t .waits) fs,
+      none-taken ownFactors estimateIn (λ x. refl) tables last,
+    ) (append-nil (t .estimates)) in
     let waits : filterMap waitIn (map lane (t .lanes) ++ es) ≡ t .waits
     = none-taken lane waitIn (λ l. refl) (t .lanes) es
     ∙ none-taken estimate waitIn (λ e. refl) (t .estimates) ws
-    ∙ all-taken wait waitIn (λ w. refl) (t .waits) last
-    ∙ append-nil (t .waits) in
+    ∙ all-taken wait waitIn (λ w. refl) (t .waits) fs
+    ∙ rw (none-taken ownFactors waitIn (λ x. refl) tables last) (append-nil (t .waits)) in
+    let factors : filterMap factorsIn (map lane (t .lanes) ++ es) ≡ tables
+    = none-taken lane factorsIn (λ l. refl) (t .lanes) es
+    ∙ none-taken estimate factorsIn (λ e. refl) (t .estimates) ws
+    ∙ none-taken wait factorsIn (λ w. refl) (t .waits) fs
+    ∙ all-taken ownFactors factorsIn (λ x. refl) tables last
+    ∙ append-nil tables in
     let jobs : filterMap jobIn (map lane (t .lanes) ++ es) ≡ t .job ∷ []
     = none-taken lane jobIn (λ l. refl) (t .lanes) es
     ∙ none-taken estimate jobIn (λ e. refl) (t .estimates) ws
-    ∙ none-taken wait jobIn (λ w. refl) (t .waits) last in
+    ∙ none-taken wait jobIn (λ w. refl) (t .waits) fs
+    ∙ none-taken ownFactors jobIn (λ x. refl) tables last in
     λ i. record {
       size = t .size;
       lanes = lanes i;
       estimates = estimates i;
       waits = waits i;
-      factors = sym (ok .factors) i;
+      factors = (ap (λ (ts : List (List ℕ)). headD ts fixedFactors) factors ∙ table-back (t .factors)) i;
       growth = sym (ok .growth) i;
       job = headD (jobs i) noJob;
     }
@@ -182,6 +227,11 @@ wait-long : (w : PlaceValue) → StorableValue 65536 w → misfits (waitRecord w
 unfolding misfits bodyLength otherThan waitRecord put16
 wait-long w ok = rw (wait-read w ok)
 
+table-long : (fs : List ℕ) → IsTable fs → misfits (factorsRecord fs) ≡ false
+unfolding misfits bodyLength otherThan
+table-long fs table =
+    rw (table-read fs table) (ap not (eq-eqb (length (factorsRecord fs .body)) factorsBytes (factors-length fs (table .eight))))
+
 job-long : (j : Job) → StorableJob j → misfits (jobRecord j) ≡ false
 unfolding misfits bodyLength otherThan
 job-long j ok = rw (job-read j ok) (ap not (eq-eqb (length (jobRecord j .body)) _ (job-length j)))
@@ -190,7 +240,10 @@ pub lengths-right : (t : Stated) → Storable t → wrongLength (recordsOf t) �
 unfolding wrongLength recordsOf any
 lengths-right t ok =
     let job = or-none (misfits (jobRecord (t .job))) _ (job-long (t .job) (ok .job)) refl in
-    let waits = each-long waitRecord (t .waits) (λ w i. wait-long w (ok .waits w i)) _ job in
+    let table-fits : (fs : List ℕ) → List·Memᴰ fs (tablesOf (t .factors)) → misfits (factorsRecord fs) ≡ false
+    = λ fs i. table-long fs (rw (tables-member (t .factors) fs i) (ok .factors)) in
+    let tables = each-long factorsRecord (tablesOf (t .factors)) table-fits _ job in
+    let waits = each-long waitRecord (t .waits) (λ w i. wait-long w (ok .waits w i)) _ tables in
     let estimates = each-long estimateRecord (t .estimates) (λ e i. estimate-long e (ok .estimates e i)) _ waits in
     let lanes = each-long laneRecord (t .lanes) (λ l i. lane-long l (ok .lanes l i)) _ estimates in
     or-none (misfits (headRecord (t .size))) _ (head-long (t .size) (ok .places) (ok .arcs)) lanes

@@ -1,15 +1,14 @@
--- Runs of the writer, computed from the definitions: an input whose lanes are out of order in every field, inputs whose waits stand among the other
--- records, inputs at the edge of 14, 15 and 21, and a pair that differs in a wait.
-use mathlib.Core.Path.{_≡_, refl}
-use mathlib.Core.Bool.{Bool, true, false, _&&_}
+-- Runs of the writer, computed from the definitions: an input whose lanes are out of order in every field, inputs whose waits or factors stand among
+-- the other records, inputs at the edge of 14, 15, 21 and 22, a pair that differs in a wait, and pairs that differ in a table.
+use mathlib.Core.Path.{_≡_, refl, ap}
+use mathlib.Core.Bool.{Bool, true, _&&_}
 use mathlib.Core.List.{List, [], _∷_, _++_, flatMap}
 use Prim.Native.Nat.{ℕ, _-_}
 use native.Mathlib.Omega.{arith}
-use lib.Dec.{eqb}
-use lib.ListN.{length, replicate}
-use Rattle.model.specs.Lists.{below}
-use Rattle.model.specs.Stated.{statedIn}
-use Rattle.model.specs.Jobs.{putHead, putArc, putMeasured, putEstimate, putWait, putJob, putCharged, putLane}
+use lib.ListN.{length, getD, replicate}
+use Rattle.model.specs.Lists.{below, sameNumbers}
+use Rattle.model.specs.Stated.{fixedFactors, statedIn}
+use Rattle.model.specs.Jobs.{putHead, putArc, putMeasured, putEstimate, putWait, putFactors, putTable, putJob, putCharged, putLane}
 use Rattle.model.proofs.Compute.{compute}
 use Rattle.sort.specs.Sorting.{insert, sortBy}
 use Rattle.map_writer.specs.Order.{kindFields, orderFields, noGreater, noLater}
@@ -57,6 +56,30 @@ mixedForm =
 oneWait : ℕ → List ℕ
 oneWait x = putHead 2 1 ++ putArc 0 1 5 ++ putWait 0 x ++ putJob 0 90 (1 ∷ [])
 
+-- a factor of 1 for every class
+ones : List ℕ
+ones = 1 ∷ 1 ∷ 1 ∷ 1 ∷ 1 ∷ 1 ∷ 1 ∷ 1 ∷ []
+
+-- a table stands before the waits, and waits and an estimate between the lanes
+tabled : List ℕ
+tabled =
+    putHead 3 2 ++ putFactors ones ++ putWait 1 3 ++ putArc 1 2 4 ++ putEstimate 0 9 ++ putArc 0 1 5 ++ putWait 0 2 ++ putJob 0 90 (2 ∷ [])
+
+tabledForm : List ℕ
+tabledForm =
+    putHead 3 2 ++ putArc 0 1 5 ++ putArc 1 2 4 ++ putEstimate 0 9 ++ putWait 0 2 ++ putWait 1 3 ++ putFactors ones ++ putJob 0 90 (2 ∷ [])
+
+-- one lane, which has no class, and these records of tables
+oneLane : (tables : List ℕ) → List ℕ
+oneLane tables = putHead 2 1 ++ putArc 0 1 5 ++ tables ++ putJob 0 90 (1 ∷ [])
+
+-- two lanes, of 3 feet in class 0 and of 2 feet in class 1: by the fixed factors the first costs less
+shorterLast : (tables : List ℕ) → List ℕ
+shorterLast tables = putHead 2 2 ++ putMeasured 0 1 3 0 ++ putMeasured 0 1 2 1 ++ tables ++ putJob 0 90 (1 ∷ [])
+
+shorterFirst : (tables : List ℕ) → List ℕ
+shorterFirst tables = putHead 2 2 ++ putMeasured 0 1 2 1 ++ putMeasured 0 1 3 0 ++ tables ++ putJob 0 90 (1 ∷ [])
+
 record Run : Type 0 where
   pub input : List ℕ
   -- how long the lent areas are
@@ -80,6 +103,14 @@ runs =
     -- in two maps that differ in a wait
     ∷ run (oneWait 3) 34 40 0 34 (oneWait 3)
     ∷ run (oneWait 4) 34 40 0 34 (oneWait 4)
+    -- a table after the waits and just before the job, also where no lane has a class
+    ∷ run tabled 52 88 0 52 tabledForm
+    ∷ run (oneLane (putFactors ones)) 34 52 0 34 (oneLane (putFactors ones))
+    -- but not the fixed one
+    ∷ run (oneLane (putFactors fixedFactors)) 34 52 0 34 (oneLane [])
+    -- lanes by what they cost under the table
+    ∷ run (shorterLast (putFactors ones)) 36 66 0 36 (shorterFirst (putFactors ones))
+    ∷ run (shorterFirst (putFactors fixedFactors)) 36 66 0 36 (shorterLast [])
     -- one word, and one byte, less than is asked: what would be written would fit
     ∷ run jumbled 79 140 14 0 []
     ∷ run jumbled 80 139 15 0 []
@@ -87,14 +118,9 @@ runs =
     -- a condition of the input comes first
     ∷ run [] 0 0 4 0 []
     ∷ run (putHead 1 1 ++ putMeasured 0 0 1 8 ++ putJob 0 0 (0 ∷ [])) 0 0 20 0 []
+    ∷ run (oneLane (putFactors fixedFactors ++ putFactors fixedFactors)) 0 0 22 0 []
     ∷ run (oneWait 65531) 0 0 21 0 []
     ∷ []
-
-same : List ℕ → List ℕ → Bool
-same [] [] = true
-same [] (y ∷ ys) = false
-same (x ∷ xs) [] = false
-same (x ∷ xs) (y ∷ ys) = eqb x y && same xs ys
 
 -- the lent areas hold sevens and nines before the call
 agrees : Run → Bool
@@ -103,21 +129,32 @@ agrees r =
     let a = after .answer in
     let size = length (r .text) in
     let numbers = a .number ∷ a .cost ∷ a .limit ∷ a .floor ∷ a .expansions ∷ a .queries ∷ a .sheet-bytes ∷ [] in
-    same numbers (r .number ∷ 0 ∷ 0 ∷ 0 ∷ 0 ∷ 0 ∷ size ∷ [])
-    && (same (after .work) (replicate (r .zeros) 0 ++ replicate (r .words - r .zeros) 7)
-    && same (after .sheet) (r .text ++ replicate (r .bytes - size) 9))
+    sameNumbers numbers (r .number ∷ 0 ∷ 0 ∷ 0 ∷ 0 ∷ 0 ∷ size ∷ [])
+    && (sameNumbers (after .work) (replicate (r .zeros) 0 ++ replicate (r .words - r .zeros) 7)
+    && sameNumbers (after .sheet) (r .text ++ replicate (r .bytes - size) 9))
 
 all : List Run → Bool
 all [] = true
 all (r ∷ rs) = agrees r && all rs
 
 runs-agree : all runs ≡ true
-unfolding compute lanes inOrder job jumbled canonicalForm waiting waitingForm mixed mixedForm oneWait run runs same agrees all
-    below flatMap insert sortBy kindFields orderFields noGreater noLater byPlace nonzeroByPlace canonical putCharged putLane putStated write
+unfolding compute lanes inOrder job jumbled canonicalForm waiting waitingForm mixed mixedForm oneWait
+    ones tabled tabledForm oneLane shorterLast shorterFirst run runs agrees all sameNumbers putFactors putTable below flatMap insert sortBy kindFields orderFields noGreater noLater byPlace nonzeroByPlace canonical putCharged putLane putStated write
     shortOutput outputRows writeRows writeRefusal writtenWith writeIf writeMap
 runs-agree = refl
 
--- and they do not agree
+-- maps with different waits do not agree
 waits-differ : Agree (statedIn (oneWait 3)) (statedIn (oneWait 4)) → ⊥
 unfolding compute oneWait
 waits-differ a = omega (arith, a .waits 0)
+
+-- nor do maps with different tables, though no lane has a class
+tables-differ : Agree (statedIn (oneLane (putFactors ones))) (statedIn (oneLane [])) → ⊥
+unfolding compute ones oneLane putFactors
+tables-differ a = omega (arith, ap (λ (fs : List ℕ). getD fs 1 0) (a .factors))
+
+-- but a record of the fixed table says what holds without it
+fixed-agrees : Agree (statedIn (oneLane (putFactors fixedFactors))) (statedIn (oneLane []))
+unfolding compute oneLane putFactors
+fixed-agrees =
+    record { places = refl; lanes = λ l. refl; estimates = λ v. refl; waits = λ v. refl; factors = refl; job = refl }

@@ -1,35 +1,40 @@
 -- The written map of an input that passes: it is bytes, states the canonical form, and passes too. Assumes nothing.
 use mathlib.Core.Path.{_≡_, refl}
 use mathlib.Core.Bool.{Bool, true, false}
-use mathlib.Core.List.{List, [], _∷_, _++_, map, headD, append-assoc, List·Memᴰ, List·Memᴰ·head, Memᴰ·of-map}
+use mathlib.Core.List.{List, [], _∷_, _++_, map, headD, append-nil, append-assoc, List·Memᴰ, List·Memᴰ·head, Memᴰ·of-map}
 use mathlib.Core.Option.{some}
 use Prim.Native.Nat.{ℕ, _^_, _<_}
 use native.Mathlib.Omega.{arith}
+use lib.Dec.{ltb}
 use lib.ListN.{length}
+use borrow.Author.Tests.{le-ltb}
 use Rattle.model.specs.Lists.{any, consIf, filterMap, isGiven}
 use Rattle.model.specs.Bytes.{Bytes, u32}
 use Rattle.model.specs.Framing.{Record, Framed, frame}
-use Rattle.model.specs.Items.{Lane, Job, Item, head, lane, estimate, job, wait, other, jobOf, itemOf, items, bodyLength, sizeIn, jobIn}
-use Rattle.model.specs.Stated.{Stated, noJob, statedBy, stated, statedIn}
-use Rattle.model.specs.Refusals.{unknownKind, beginsWithHead, wrongHead, wrongMeasure, endsWithJob, wrongJob}
-use Rattle.model.specs.Refusals.{formRows, sizeRows, mapRows, costRows, jobRows, inputRows, firstThatHolds, holdsAt, inputRefusal}
+use Rattle.model.specs.Items.{Lane, Job, Item, head, lane, estimate, job, wait, ownFactors, other}
+use Rattle.model.specs.Items.{jobOf, itemOf, items, bodyLength, sizeIn, jobIn, factorsIn}
+use Rattle.model.specs.Stated.{Stated, IsTable, noJob, statedBy, stated, statedIn}
+use Rattle.model.specs.Refusals.{unknownKind, beginsWithHead, wrongHead, wrongMeasure, breaksRules, wrongFactors, endsWithJob, wrongJob}
+use Rattle.model.specs.Refusals.{formRows, sizeRows, mapRows, factorRows, costRows, jobRows, inputRows, firstThatHolds, holdsAt, inputRefusal}
 use Rattle.model.proofs.Lists.{none-some, any-false, filterMap-member}
 use Rattle.model.proofs.Bytes.{u32-below}
 use Rattle.model.proofs.Items.{KindOf, is-job, kind-of}
 use Rattle.model.proofs.Rows.{row-fails, input-numbered}
 use Rattle.model.proofs.Records.{records-fit}
-use Rattle.model.proofs.Acceptance.{wait-below, states-factors, states-growth}
+use Rattle.model.proofs.Tests.{any-none, or-none}
+use Rattle.model.proofs.Charges.{table-passes}
+use Rattle.model.proofs.Acceptance.{wait-below, stated-table, states-growth}
 use Rattle.load.specs.Load.{Fit}
 use Rattle.map_writer.specs.Canonical.{canonical, putStated, write}
-use Rattle.map_writer.proofs.WrittenRecords.{Storable, put-framed}
-use Rattle.map_writer.proofs.ReadBack.{itemsOf, items-said, none-taken, records-stated, stated-back, lengths-right}
+use Rattle.map_writer.proofs.WrittenRecords.{Storable, tablesOf, tables-few, tables-member, put-framed}
+use Rattle.map_writer.proofs.ReadBack.{itemsOf, items-said, none-taken, all-taken, records-stated, stated-back, lengths-right}
 use Rattle.map_writer.proofs.CanonicalPasses.{Passing, lane-inside, lane-cheap, canonical-passing, canonical-storable}
 
 -- ---- what an input states
 
 -- the conditions on what an input states, each found by its number
 pub input-passing : (f : Framed) → inputRefusal f ≡ 0 → Passing (stated (f .records))
-unfolding inputRefusal inputRows formRows sizeRows mapRows costRows jobRows holdsAt
+unfolding inputRefusal inputRows formRows sizeRows mapRows factorRows costRows jobRows holdsAt
 input-passing f A =
     let no = row-fails (inputRows f) (input-numbered f) A in
     record {
@@ -39,6 +44,7 @@ input-passing f A =
       small = no 8;
       single = no 9;
       in-measure = no 20;
+      table = stated-table (f .records) (no 22);
       waits = no 21;
       job-inside = no 11;
       goals = no 12;
@@ -71,6 +77,7 @@ allowance-field r j e = go (itemOf r) (kind-of r) e
     go (estimate s) k e = none-some e
     go (job k) (is-job q) e = cc
     go (wait w) k e = none-some e
+    go (ownFactors fs) k e = none-some e
     go other k e = none-some e
 
 -- the allowance is a number of 4 bytes
@@ -105,7 +112,8 @@ module _ (t : Stated) where
   known-kinds : unknownKind (itemsOf t) ≡ false
   unfolding unknownKind itemsOf bodyLength isGiven any
   known-kinds =
-      let waits = none-passes wait _ (λ w. refl) (t .waits) _ refl in
+      let tables = none-passes ownFactors _ (λ fs. refl) (tablesOf (t .factors)) _ refl in
+      let waits = none-passes wait _ (λ w. refl) (t .waits) _ tables in
       none-passes lane _ (λ l. refl) (t .lanes) _ (none-passes estimate _ (λ e. refl) (t .estimates) _ waits)
 
   right-head : wrongHead (itemsOf t) ≡ false
@@ -115,7 +123,23 @@ module _ (t : Stated) where
         none-taken lane sizeIn (λ l. refl) (t .lanes),
         none-taken estimate sizeIn (λ e. refl) (t .estimates),
         none-taken wait sizeIn (λ w. refl) (t .waits),
+        none-taken ownFactors sizeIn (λ fs. refl) (tablesOf (t .factors)),
       )
+
+  -- the table is the only one, and keeps the rules
+  right-factors : IsTable (t .factors) → wrongFactors (itemsOf t) ≡ false
+  unfolding wrongFactors itemsOf factorsIn filterMap consIf
+  right-factors table =
+      let tables : List (List ℕ) = tablesOf (t .factors) in
+      let kept : any breaksRules tables ≡ false
+      = any-none breaksRules tables λ fs i. rw (tables-member (t .factors) fs i) (table-passes (t .factors) (table .eight) .1 table) in
+      rw (
+        none-taken lane factorsIn (λ l. refl) (t .lanes),
+        none-taken estimate factorsIn (λ e. refl) (t .estimates),
+        none-taken wait factorsIn (λ w. refl) (t .waits),
+        all-taken ownFactors factorsIn (λ fs. refl) tables,
+        append-nil tables,
+      ) (or-none (ltb 1 (length tables)) (any breaksRules tables) (le-ltb 1 (length tables) (tables-few (t .factors))) kept)
 
   one-job : wrongJob (itemsOf t) ≡ false
   unfolding wrongJob itemsOf jobIn isGiven filterMap consIf
@@ -123,19 +147,22 @@ module _ (t : Stated) where
       let ls : List Item = map lane (t .lanes) in
       let es : List Item = map estimate (t .estimates) in
       let ws : List Item = map wait (t .waits) in
+      let fs : List Item = map ownFactors (tablesOf (t .factors)) in
       let last : List Item = job (t .job) ∷ [] in
-      let end : endsWithJob (head (t .size) ∷ (ls ++ (es ++ (ws ++ last)))) ≡ true
-      = rw (← append-assoc es ws last, ← append-assoc ls (es ++ ws) last) (ends-after (head (t .size)) (ls ++ (es ++ ws)) (job (t .job))) in
+      let end : endsWithJob (head (t .size) ∷ (ls ++ (es ++ (ws ++ (fs ++ last))))) ≡ true
+      = rw (← append-assoc ws fs last, ← append-assoc es (ws ++ fs) last, ← append-assoc ls (es ++ (ws ++ fs)) last)
+      (ends-after (head (t .size)) (ls ++ (es ++ (ws ++ fs))) (job (t .job))) in
       rw (
         end,
         none-taken lane jobIn (λ l. refl) (t .lanes),
         none-taken estimate jobIn (λ e. refl) (t .estimates),
         none-taken wait jobIn (λ w. refl) (t .waits),
+        none-taken ownFactors jobIn (λ x. refl) (tablesOf (t .factors)),
       )
 
   -- the records of what passes are accepted
   pub put-passes : Storable t → Passing t → inputRefusal (frame (putStated t)) ≡ 0
-  unfolding inputRefusal inputRows formRows sizeRows mapRows costRows jobRows firstThatHolds
+  unfolding inputRefusal inputRows formRows sizeRows mapRows factorRows costRows jobRows firstThatHolds
   put-passes ok p =
       rw (
         put-framed t ok,
@@ -150,6 +177,7 @@ module _ (t : Stated) where
         p .small,
         p .single,
         p .in-measure,
+        right-factors (p .table),
         p .waits,
         one-job,
         p .job-inside,
@@ -164,7 +192,7 @@ module _ (input : List ℕ) (B : Bytes input) (A : inputRefusal (frame input) �
   pub storable : Storable (canonical (statedIn input))
   storable =
       canonical-storable (statedIn input) (input-passing (frame input) A) (wait-below input B) (allowance-below input B)
-      (states-factors (frame input .records)) (states-growth (frame input .records))
+      (states-growth (frame input .records))
 
   pub written-states : statedIn (write (statedIn input)) ≡ canonical (statedIn input)
   unfolding write

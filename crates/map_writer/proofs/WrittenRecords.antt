@@ -1,17 +1,18 @@
 -- The records that are written of what is stated. Where its fields fit in theirs, they are bytes and are framed as those records. Assumes nothing.
 use mathlib.Core.Path.{_≡_, refl, sym}
-use mathlib.Core.Bool.{false}
+use mathlib.Core.Bool.{Bool, true, false, cond}
 use mathlib.Core.List.{List, [], _∷_, _++_, map, flatMap, append-nil, append-assoc}
 use mathlib.Core.List.{List·Memᴰ, List·Memᴰ·head, List·Memᴰ·tail, List·Memᴰ·not-nil}
-use Prim.Native.Nat.{ℕ, _+_, _*_, _^_, _<_}
+use Prim.Native.Nat.{ℕ, _+_, _*_, _^_, _≤_, _<_}
 use native.Mathlib.Omega.{arith}
 use lib.ListN.{length}
+use Rattle.model.specs.Lists.{sameNumbers}
 use Rattle.model.specs.Bytes.{Bytes, put16, put32, put16s}
 use Rattle.model.specs.Framing.{Record, frame, putRecord}
-use Rattle.model.specs.Items.{headKind, arcKind, estimateKind, jobKind, measuredKind, waitKind, jobBytes}
+use Rattle.model.specs.Items.{headKind, arcKind, estimateKind, jobKind, measuredKind, waitKind, factorsKind, factorsBytes, jobBytes}
 use Rattle.model.specs.Items.{Size, Charge, flat, measured, Lane, PlaceValue, Job}
-use Rattle.model.specs.Stated.{Stated, fixedFactors}
-use Rattle.model.specs.Jobs.{putHead, putArc, putMeasured, putEstimate, putWait, putJob, putCharged, putLane}
+use Rattle.model.specs.Stated.{Stated, fixedFactors, IsTable}
+use Rattle.model.specs.Jobs.{putHead, putArc, putMeasured, putEstimate, putWait, putFactors, putTable, putJob, putCharged, putLane}
 use Rattle.model.proofs.Bytes.{append-bytes, put16-is-bytes, put32-is-bytes, put16s-is-bytes, put16s-length}
 use Rattle.model.proofs.Records.{putRecords, Fits, AllFit, frame-records}
 use Rattle.map_writer.specs.Canonical.{putStated}
@@ -44,9 +45,9 @@ pub record Storable (t : Stated) : Type 0 where
   pub lanes : (l : Lane) → List·Memᴰ l (t .lanes) → StorableLane l
   pub estimates : (e : PlaceValue) → List·Memᴰ e (t .estimates) → StorableValue (2 ^ 32) e
   pub waits : (w : PlaceValue) → List·Memᴰ w (t .waits) → StorableValue 65536 w
+  pub factors : IsTable (t .factors)
   pub job : StorableJob (t .job)
-  -- no record states others
-  pub factors : t .factors ≡ fixedFactors
+  -- no record states another
   pub growth : t .growth ≡ 2
 
 -- ---- the records
@@ -67,13 +68,48 @@ estimateRecord e = record { kind = estimateKind; body = put16 (e .place) ++ put3
 unfoldable pub waitRecord : PlaceValue → Record
 waitRecord w = record { kind = waitKind; body = put16 (w .place) ++ put16 (w .value) }
 
+unfoldable pub factorsRecord : List ℕ → Record
+factorsRecord fs = record { kind = factorsKind; body = put16s fs }
+
+-- the tables that are written: one, where it is not the fixed one
+unfoldable pub tablesOf : List ℕ → List (List ℕ)
+tablesOf fs = cond (sameNumbers fs fixedFactors) [] (fs ∷ [])
+
 unfoldable pub jobRecord : Job → Record
 jobRecord j = record { kind = jobKind; body = put16 (j .start) ++ put32 (j .allowance) ++ put16 (length (j .goals)) ++ put16s (j .goals) }
 
 unfoldable pub recordsOf : Stated → List Record
 recordsOf t =
     headRecord (t .size)
-    ∷ (map laneRecord (t .lanes) ++ (map estimateRecord (t .estimates) ++ (map waitRecord (t .waits) ++ (jobRecord (t .job) ∷ []))))
+    ∷ (map laneRecord (t .lanes)
+    ++ (map estimateRecord (t .estimates)
+    ++ (map waitRecord (t .waits) ++ (map factorsRecord (tablesOf (t .factors)) ++ (jobRecord (t .job) ∷ [])))))
+
+module _ (fs : List ℕ) where
+  pub tables-few : length (tablesOf fs) ≤ 1
+  unfolding tablesOf
+  tables-few = go (sameNumbers fs fixedFactors)
+    where
+      go : (same : Bool) → length (cond same [] (fs ∷ [])) ≤ 1
+      go true = omega arith
+      go false = omega arith
+
+  pub tables-member : (gs : List ℕ) → List·Memᴰ gs (tablesOf fs) → gs ≡ fs
+  unfolding tablesOf
+  tables-member gs = go (sameNumbers fs fixedFactors)
+    where
+      go : (same : Bool) → List·Memᴰ gs (cond same [] (fs ∷ [])) → gs ≡ fs
+      go true i = absurd (List·Memᴰ·not-nil i)
+      go false (List·Memᴰ·head e) = e
+      go false (List·Memᴰ·tail i) = absurd (List·Memᴰ·not-nil i)
+
+  put-tables : flatMap putFactors (tablesOf fs) ≡ putTable fs
+  unfolding tablesOf putTable flatMap
+  put-tables = go (sameNumbers fs fixedFactors)
+    where
+      go : (same : Bool) → flatMap putFactors (cond same [] (fs ∷ [])) ≡ cond same [] (putFactors fs)
+      go true = refl
+      go false = append-nil (putFactors fs)
 
 -- records put one after another, of which each is the bytes that g gives
 module _ {A : Type 0} (f : A → Record) (g : A → List ℕ) (each : (x : A) → g x ≡ putRecord (f x .kind) (f x .body)) where
@@ -106,6 +142,10 @@ put-wait : (w : PlaceValue) → putWaitOf w ≡ putRecord (waitRecord w .kind) (
 unfolding putWait waitRecord
 put-wait w = refl
 
+put-factors : (fs : List ℕ) → putFactors fs ≡ putRecord (factorsRecord fs .kind) (factorsRecord fs .body)
+unfolding putFactors factorsRecord
+put-factors fs = refl
+
 -- one after another they are what is written
 pub put-records : (t : Stated) → putRecords (recordsOf t) ≡ putStated t
 unfolding recordsOf putStated putRecords putHead putJob headRecord jobRecord
@@ -113,7 +153,9 @@ put-records t =
     let lanes = put-each laneRecord putLane put-lane (t .lanes) in
     let estimates = put-each estimateRecord putEstimateOf put-estimate (t .estimates) in
     let waits = put-each waitRecord putWaitOf put-wait (t .waits) in
-    rw (lanes, estimates, waits, append-nil (putJob (t .job .start) (t .job .allowance) (t .job .goals))) (simp append-assoc)
+    let tables = put-each factorsRecord putFactors put-factors (tablesOf (t .factors)) in
+    let job : List ℕ = putJob (t .job .start) (t .job .allowance) (t .job .goals) in
+    rw (lanes, estimates, waits, tables, put-tables (t .factors), append-nil job) (simp append-assoc)
 
 -- ---- they fit
 
@@ -150,6 +192,15 @@ wait-fits : (w : PlaceValue) → Fits (waitRecord w)
 unfolding waitRecord put16
 wait-fits w = record { kind-below = omega arith; length-below = omega arith; bytes = two-fields (w .place) (w .value) }
 
+pub factors-length : (fs : List ℕ) → length fs ≡ 8 → length (factorsRecord fs .body) ≡ factorsBytes
+unfolding factorsRecord
+factors-length fs eight = omega (arith, put16s-length fs)
+
+factors-fits : (fs : List ℕ) → length fs ≡ 8 → Fits (factorsRecord fs)
+unfolding factorsRecord
+factors-fits fs eight =
+    record { kind-below = omega arith; length-below = omega (arith, factors-length fs eight); bytes = put16s-is-bytes fs }
+
 -- the body of a job before its goals
 abbrev pub jobFront : Job → List ℕ
 jobFront j = put16 (j .start) ++ put32 (j .allowance) ++ put16 (length (j .goals))
@@ -173,18 +224,22 @@ job-fits j ok =
     record { kind-below = omega arith; length-below = omega (arith, job-length j, ok .few-goals); bytes = bytes }
 
 -- records that each fit, before others that fit
-module _ {A : Type 0} (f : A → Record) (each : (x : A) → Fits (f x)) where
-  fit-each : (xs : List A) (rs : List Record) → AllFit rs → AllFit (map f xs ++ rs)
-  fit-each [] rs fit r i = fit r i
-  fit-each (x ∷ xs) rs fit r (List·Memᴰ·head e) = rw e (each x)
-  fit-each (x ∷ xs) rs fit r (List·Memᴰ·tail i) = fit-each xs rs fit r i
+module _ {A : Type 0} (f : A → Record) where
+  fit-each : (xs : List A) → ((x : A) → List·Memᴰ x xs → Fits (f x)) → (rs : List Record) → AllFit rs → AllFit (map f xs ++ rs)
+  fit-each [] each rs fit r i = fit r i
+  fit-each (x ∷ xs) each rs fit r (List·Memᴰ·head e) = rw e (each x (List·Memᴰ·head refl))
+  fit-each (x ∷ xs) each rs fit r (List·Memᴰ·tail i) = fit-each xs (λ y j. each y (List·Memᴰ·tail j)) rs fit r i
 
 records-fit : (t : Stated) → Storable t → AllFit (recordsOf t)
 unfolding recordsOf
 records-fit t ok r (List·Memᴰ·head e) = rw e (head-fits (t .size))
 records-fit t ok r (List·Memᴰ·tail i) =
-    let waits = fit-each waitRecord wait-fits (t .waits) _ last in
-    fit-each laneRecord lane-fits (t .lanes) _ (fit-each estimateRecord estimate-fits (t .estimates) _ waits) r i
+    let table-fits : (fs : List ℕ) → List·Memᴰ fs (tablesOf (t .factors)) → Fits (factorsRecord fs)
+    = λ fs j. factors-fits fs (rw (tables-member (t .factors) fs j) (ok .factors .eight)) in
+    let tables = fit-each factorsRecord (tablesOf (t .factors)) table-fits _ last in
+    let waits = fit-each waitRecord (t .waits) (λ w j. wait-fits w) _ tables in
+    let estimates = fit-each estimateRecord (t .estimates) (λ e j. estimate-fits e) _ waits in
+    fit-each laneRecord (t .lanes) (λ l j. lane-fits l) _ estimates r i
   where
     last : AllFit (jobRecord (t .job) ∷ [])
     last r (List·Memᴰ·head e) = rw e (job-fits (t .job) (ok .job))

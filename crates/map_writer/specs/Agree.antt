@@ -1,5 +1,5 @@
--- When two inputs state the same. Document 02, paper 3: "the same N, arc records as a collection with repeats, estimates and job"; paper 5 on waits: "its
--- agreement covers them".
+-- When two inputs state the same. Document 02, paper 3: "the same N, arc records as a collection with repeats, estimates and job"; paper 5 on waits and
+-- later kinds: "its agreement covers them". Of factors, those in force.
 use mathlib.Core.Path.{_≡_}
 use mathlib.Core.Bool.{Bool, false, _&&_}
 use mathlib.Core.List.{List}
@@ -28,4 +28,5 @@ pub record Agree (s t : Stated) : Type 0 where
   pub lanes : (l : Lane) → copies l (s .lanes) ≡ copies l (t .lanes)
   pub estimates : (v : ℕ) → lookup 0 (s .estimates) v ≡ lookup 0 (t .estimates) v
   pub waits : (v : ℕ) → waitAt s v ≡ waitAt t v
+  pub factors : s .factors ≡ t .factors
   pub job : s .job ≡ t .job

@@ -8,7 +8,7 @@ use lib.Dec.{eqb}
 use Rattle.model.specs.Lists.{filter, below}
 use Rattle.model.specs.Items.{PlaceValue}
 use Rattle.model.specs.Stated.{Stated, lookup}
-use Rattle.model.specs.Jobs.{putHead, putEstimate, putWait, putJob, putLane}
+use Rattle.model.specs.Jobs.{putHead, putEstimate, putWait, putTable, putJob, putLane}
 use Rattle.sort.specs.Sorting.{sortBy}
 use Rattle.map_writer.specs.Order.{noLater}
 
@@ -39,6 +39,7 @@ putStated s =
     ++ flatMap putLane (s .lanes)
     ++ flatMap (λ (e : PlaceValue). putEstimate (e .place) (e .value)) (s .estimates)
     ++ flatMap (λ (w : PlaceValue). putWait (w .place) (w .value)) (s .waits)
+    ++ putTable (s .factors)
     ++ putJob (s .job .start) (s .job .allowance) (s .job .goals)
 
 -- the written map of what an input states

@@ -2,9 +2,9 @@
 use answer::Answer;
 use judge::Judgement;
 use map::Job;
-use map::Map;
 use map::Site;
 use map::number;
+use map::record;
 ghost use mathlib.Core.Path.{_≡_};
 ghost use Prim.Native.Nat.{_≤_, _<_, _^_};
 ghost use Rattle.model.specs.Answer.{answer};
@@ -23,7 +23,7 @@ fn order(input: &[u8], job: Job, work: &mut [u32])
     let site = job.site;
     let places = site.places;
     load::prepare(input, job, work);
-    let factors = Map::fixed_factors();
+    let factors = record::factors(input, job.factors_at);
     lane_rows::place_records(input, places, &factors, work);
     lane_rows::sort_rows(work, places);
 }

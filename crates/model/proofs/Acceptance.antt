@@ -1,28 +1,31 @@
 -- What acceptance gives: each condition is false, and the problem is valid. Assumes nothing.
-use mathlib.Core.Path.{_≡_, refl}
+use mathlib.Core.Path.{_≡_, refl, sym}
 use mathlib.Core.Bool.{Bool, true, false, cond}
-use mathlib.Core.List.{List, [], _∷_, List·Memᴰ, List·Memᴰ·head, List·Memᴰ·tail, Memᴰ·of-map}
+use mathlib.Core.List.{List, [], _∷_, headD, List·Memᴰ, List·Memᴰ·head, List·Memᴰ·tail, List·Memᴰ·not-nil, Memᴰ·of-map}
 use mathlib.Core.Option.{Option, some}
 use Prim.Native.Nat.{ℕ, _≤_, _<_}
 use native.Mathlib.Omega.{arith}
-use lib.Dec.{leb, eqb}
+use lib.Dec.{ltb, leb, eqb}
 use lib.ListN.{length}
 use borrow.Author.Tests.{ltb-false, leb-false, eqb-true, not-false}
 use Rattle.model.specs.Bytes.{Bytes}
-use Rattle.model.specs.Lists.{filterMap, repeats}
+use Rattle.model.specs.Lists.{any, filterMap, repeats}
 use Rattle.model.specs.Framing.{Record, frame}
 use Rattle.model.specs.Limits.{maxCost, maxEstimate}
 use Rattle.model.specs.Problem.{Valid}
-use Rattle.model.specs.Items.{flat, Lane, PlaceValue, Item, itemOf, items, laneIn, waitIn}
-use Rattle.model.specs.Stated.{fixedFactors, statedBy, stated, statedIn, lookup, laneCost, arcOf, problemOf}
-use Rattle.model.specs.Refusals.{wrongSize, outsideMap, freeArc, largeEstimate, wrongMeasure, placesIn, wrongWait}
+use Rattle.model.specs.Items.{flat, measured, Lane, PlaceValue, Item, head, lane, estimate, job, wait, ownFactors, other}
+use Rattle.model.specs.Items.{factorsOf, itemOf, items, laneIn, waitIn, factorsIn}
+use Rattle.model.specs.Stated.{fixedFactors, IsTable, statedBy, stated, statedIn, lookup, laneCost, arcOf, problemOf}
+use Rattle.model.specs.Refusals.{wrongSize, outsideMap, freeArc, largeEstimate, wrongMeasure, breaksRules, wrongFactors, placesIn}
+use Rattle.model.specs.Refusals.{wrongWait}
 use Rattle.model.specs.Refusals.{jobOutsideMap, wrongGoals, goalEstimate}
-use Rattle.model.specs.Refusals.{formRows, sizeRows, mapRows, costRows, jobRows, inputRows, roomRows, rows, holdsAt, refusal, Accepted}
-use Rattle.model.proofs.Lists.{neither, any-false, filterMap-member}
-use Rattle.model.proofs.Bytes.{u16-below}
+use Rattle.model.specs.Refusals.{formRows, sizeRows, mapRows, factorRows, costRows, jobRows, inputRows, roomRows, rows, holdsAt}
+use Rattle.model.specs.Refusals.{refusal, Accepted}
+use Rattle.model.proofs.Lists.{none-some, neither, any-false, filterMap-member}
+use Rattle.model.proofs.Bytes.{u16-below, u16s-length}
 use Rattle.model.proofs.Records.{records-fit}
-use Rattle.model.proofs.Items.{flat-field, wait-field}
-use Rattle.model.proofs.Charges.{IsTable, fixed-table, lane-cost-above}
+use Rattle.model.proofs.Items.{flat-field, wait-field, factors-field}
+use Rattle.model.proofs.Charges.{fixed-table, table-passes, measured-cost, lane-cost-above}
 use Rattle.model.proofs.Rows.{row-fails, rows-numbered}
 
 some-member : {A : Type 0} (xs : List A) → 1 ≤ length xs → (x : A) × List·Memᴰ x xs
@@ -59,27 +62,95 @@ module _ (input : List ℕ) (B : Bytes input) where
   unfolding stated statedBy
   wait-below w i = let (r, says, bytes) = stated-record waitIn w i in rw (wait-field r w says) (u16-below (r .body) 2 bytes)
 
--- no record states factors or a growth
-pub states-factors : (rs : List Record) → stated rs .factors ≡ fixedFactors
-unfolding stated statedBy
-states-factors rs = refl
+-- Where 22 does not hold, the factors in force pass, and a record that states factors states these, wherever it stands.
+module _ (rs : List Record) (right : wrongFactors (items rs) ≡ false) where
+  few-and-kept : (length (filterMap factorsIn (items rs)) ≤ 1) × (any breaksRules (filterMap factorsIn (items rs)) ≡ false)
+  unfolding wrongFactors
+  few-and-kept = let parts = neither (ltb 1 (length (filterMap factorsIn (items rs)))) _ right in (ltb-false _ _ (parts .0), parts .1)
 
+  eight : (fs : List ℕ) → List·Memᴰ fs (filterMap factorsIn (items rs)) → length fs ≡ 8
+  unfolding items factorsOf
+  eight fs i =
+      let (k, m, has) = filterMap-member factorsIn (items rs) fs .0 i in
+      let (r, n, of) = Memᴰ·of-map itemOf rs m in
+      rw (factors-field r fs (rw of has)) (u16s-length 8 (r .body) 0)
+
+  pub stated-table : IsTable (stated rs .factors)
+  unfolding stated statedBy headD
+  stated-table = go (filterMap factorsIn (items rs)) eight (few-and-kept .1)
+    where
+      go : (tables : List (List ℕ)) → ((fs : List ℕ) → List·Memᴰ fs tables → length fs ≡ 8) → any breaksRules tables ≡ false
+          → IsTable (headD tables fixedFactors)
+      go [] long kept = fixed-table
+      go (fs ∷ tables) long kept = table-passes fs (long fs (List·Memᴰ·head refl)) .0 (any-false _ _ kept fs (List·Memᴰ·head refl))
+
+  own-factors : (fs : List ℕ) → List·Memᴰ (ownFactors fs) (items rs) → stated rs .factors ≡ fs
+  unfolding stated statedBy headD factorsIn
+  own-factors fs i = go (filterMap factorsIn (items rs)) (few-and-kept .0) (filterMap-member factorsIn (items rs) fs .1 (ownFactors fs, i, refl))
+    where
+      go : (tables : List (List ℕ)) → length tables ≤ 1 → List·Memᴰ fs tables → headD tables fixedFactors ≡ fs
+      go [] few i = absurd (List·Memᴰ·not-nil i)
+      go (gs ∷ []) few (List·Memᴰ·head e) = sym e
+      go (gs ∷ []) few (List·Memᴰ·tail i) = absurd (List·Memᴰ·not-nil i)
+      go (gs ∷ hs ∷ tables) few i = absurd (omega arith)
+
+factors-are : (i : Item) (fs : List ℕ) → factorsIn i ≡ some fs → i ≡ ownFactors fs
+unfolding factorsIn
+factors-are (head s) fs e = none-some e
+factors-are (lane l) fs e = none-some e
+factors-are (estimate s) fs e = none-some e
+factors-are (job j) fs e = none-some e
+factors-are (wait w) fs e = none-some e
+factors-are (ownFactors gs) fs e = cc
+factors-are other fs e = none-some e
+
+pub fixed-factors : (rs : List Record) → ((fs : List ℕ) → List·Memᴰ (ownFactors fs) (items rs) → ⊥) → stated rs .factors ≡ fixedFactors
+unfolding stated statedBy headD
+fixed-factors rs no-record = go (filterMap factorsIn (items rs)) λ fs i.
+    let (k, m, has) = filterMap-member factorsIn (items rs) fs .0 i in no-record fs (rw (← factors-are k fs has) m)
+  where
+    go : (tables : List (List ℕ)) → ((fs : List ℕ) → List·Memᴰ fs tables → ⊥) → headD tables fixedFactors ≡ fixedFactors
+    go [] none = refl
+    go (fs ∷ tables) none = absurd (none fs (List·Memᴰ·head refl))
+
+-- no record states a growth
 pub states-growth : (rs : List Record) → stated rs .growth ≡ 2
 unfolding stated statedBy
 states-growth rs = refl
 
+module _ (input : List ℕ) (words bytes : ℕ) (A : Accepted input words bytes) where
+  accepted-row : (n : ℕ) → holdsAt n (rows (frame input) words bytes) ≡ false
+  unfolding refusal
+  accepted-row = row-fails (rows (frame input) words bytes) (rows-numbered (frame input) words bytes) A
+
+  right-factors : wrongFactors (items (frame input .records)) ≡ false
+  unfolding rows inputRows formRows sizeRows mapRows factorRows holdsAt
+  right-factors = accepted-row 22
+
+  pub accepted-table : IsTable (statedIn input .factors)
+  accepted-table = stated-table (frame input .records) right-factors
+
+  pub stated-factors : (fs : List ℕ) → List·Memᴰ (ownFactors fs) (items (frame input .records)) → statedIn input .factors ≡ fs
+  stated-factors = own-factors (frame input .records) right-factors
+
+  pub accepted-lane-cost : (l : Lane) (length class : ℕ) → List·Memᴰ l (statedIn input .lanes) → l .charge ≡ measured length class
+      → (1 ≤ laneCost (statedIn input) l) × (laneCost (statedIn input) l ≤ 65520)
+  unfolding laneCost rows inputRows formRows sizeRows mapRows holdsAt wrongMeasure
+  accepted-lane-cost l length class i is =
+      rw is (measured-cost (statedIn input .factors) accepted-table length class (rw is at (any-false _ _ (accepted-row 20) l i)))
+
 -- each condition is found by its number
 pub accepted-valid : (input : List ℕ) (words bytes : ℕ) → Accepted input words bytes → Valid (problemOf (statedIn input))
-unfolding problemOf laneCost arcOf rows inputRows formRows sizeRows mapRows costRows jobRows roomRows holdsAt
+unfolding problemOf laneCost arcOf rows inputRows formRows sizeRows mapRows factorRows costRows jobRows roomRows holdsAt
     wrongSize outsideMap freeArc largeEstimate wrongMeasure wrongWait jobOutsideMap wrongGoals goalEstimate refusal
 accepted-valid input words bytes A =
     let f = frame input in
     let s = stated (f .records) in
     let p = problemOf s in
-    let no = row-fails (rows f words bytes) (rows-numbered f words bytes) A in
+    let no = accepted-row input words bytes A in
     let size = neither _ _ (neither _ _ (neither _ _ (no 5) .0) .0) in
     let ends = any-false _ (s .lanes) (neither _ _ (neither _ _ (no 6) .0) .0) in
-    let table : IsTable (s .factors) = rw (states-factors (f .records)) fixed-table in
+    let table = accepted-table input words bytes A in
     let job = neither (leb (p .places) (p .start)) _ (no 11) in
     record {
       some-place = ltb-false _ _ (size .0);

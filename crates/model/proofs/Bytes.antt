@@ -37,6 +37,15 @@ unfolding u16s
 u16s-length zero b i = refl
 u16s-length (suc n) b i = ap suc (u16s-length n b (i + 2))
 
+-- field i of n fields
+pub u16s-at : (n : ℕ) (b : List ℕ) (k i : ℕ) → i < n → getD (u16s n b k) i 0 ≡ u16 b (k + 2 * i)
+unfolding u16s
+u16s-at zero b k i l = absurd (omega arith)
+u16s-at (suc n) b k zero l = let at : k ≡ k + 2 * 0 = omega arith in ap (u16 b) at
+u16s-at (suc n) b k (suc i) l =
+    let at : k + 2 + 2 * i ≡ k + 2 * suc i = omega arith in
+    u16s-at n b (k + 2) i (omega arith) ∙ ap (u16 b) at
+
 -- fields behind a front are those of what follows it
 pub u16-behind : (xs ys : List ℕ) (i : ℕ) → u16 (xs ++ ys) (length xs + i) ≡ u16 ys i
 unfolding u16

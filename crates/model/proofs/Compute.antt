@@ -1,6 +1,6 @@
 -- `unfolding compute` opens all that `route`, `readSheet` and `hostAnswer` rest on, for theorems that are proved by computing them.
 use mathlib.Core.List.{headD, getLastD}
-use Rattle.model.specs.Lists.{any, filter, isGiven, consIf, filterMap, lesser, leastBy, member, repeats, rises}
+use Rattle.model.specs.Lists.{any, filter, isGiven, consIf, filterMap, lesser, leastBy, member, repeats, rises, falls}
 use Rattle.model.specs.Bytes.{u16, u32, u16s, put16, put32, put16s}
 use Rattle.model.specs.Framing.{stop, push, frameUpTo, frame, putRecord}
 use Rattle.model.specs.Items.{
@@ -10,6 +10,7 @@ use Rattle.model.specs.Items.{
   estimateOf,
   jobOf,
   waitOf,
+  factorsOf,
   itemOf,
   chargeBytes,
   bodyLength,
@@ -21,6 +22,7 @@ use Rattle.model.specs.Items.{
   estimateIn,
   jobIn,
   waitIn,
+  factorsIn,
 }
 use Rattle.model.specs.Stated.{statedBy, stated, lookup, costUnder, laneCost, waitAt, arcOf, problemOf}
 use Rattle.model.specs.Refusals.{
@@ -36,6 +38,8 @@ use Rattle.model.specs.Refusals.{
   twoEstimates,
   mismeasured,
   wrongMeasure,
+  breaksRules,
+  wrongFactors,
   wrongWait,
   endsWithJob,
   wrongJob,
@@ -47,6 +51,7 @@ use Rattle.model.specs.Refusals.{
   formRows,
   sizeRows,
   mapRows,
+  factorRows,
   costRows,
   jobRows,
   inputRows,
@@ -112,26 +117,27 @@ use Rattle.model.specs.Sheets.{
   readSheet,
   hostAnswer,
 }
-use Rattle.model.specs.Jobs.{putHead, putArc, putMeasured, putEstimate, putWait, putJob, shares, putChain, routeJob, noRouteJob}
+use Rattle.model.specs.Jobs.{putHead, putArc, putMeasured, putEstimate, putWait, putFactors, putJob, shares, putChain, routeJob, noRouteJob}
 use Rattle.model.specs.Endings.{finished, endingIf, budgetedBy}
 use Rattle.model.specs.Answer.{sheetOf, answerOf, overFront, refusedWith, endedWith, callIf, call}
 
 unfoldable pub compute : Unit {0}
 unfolding
     headD getLastD
-    any filter isGiven consIf filterMap lesser leastBy member repeats rises
+    any filter isGiven consIf filterMap lesser leastBy member repeats rises falls
     u16 u32 u16s put16 put32 put16s
     stop push frameUpTo frame putRecord
-    headOf laneOf measuredOf estimateOf jobOf waitOf itemOf chargeBytes bodyLength otherThan misfits items sizeIn laneIn estimateIn jobIn waitIn
+    headOf laneOf measuredOf estimateOf jobOf waitOf factorsOf itemOf chargeBytes bodyLength otherThan misfits items
+    sizeIn laneIn estimateIn jobIn waitIn factorsIn
     statedBy stated lookup costUnder laneCost waitAt arcOf problemOf
     unknownKind wrongLength beginsWithHead wrongHead wrongSize outsideMap isFree freeArc largeEstimate twoEstimates mismeasured wrongMeasure
-    wrongWait endsWithJob wrongJob jobOutsideMap wrongGoals goalEstimate shortWork shortSheet
-    formRows sizeRows mapRows costRows jobRows inputRows roomRows rows firstThatHolds refusal
+    breaksRules wrongFactors wrongWait endsWithJob wrongJob jobOutsideMap wrongGoals goalEstimate shortWork shortSheet
+    formRows sizeRows mapRows factorRows costRows jobRows inputRows roomRows rows firstThatHolds refusal
     lowers storeIf arrive relaxFrom relax relaxAll sameEntry sameTable relaxUpTo startTable table
     precedes keyOf keysFrom within firstGoal lengthTo crossing nextLimit notOver judge queryOn query
     firstRound limitOf closeIf settle after ask next goOn traceUpTo trace total begun search
     parentBy parent extend routeUpTo routeTo tightBy leastPaths routeToFirst firstRoute
     routeSheet noRouteSheet reading refusedRead impossible checked fitsRoute fitsNoRoute readRecord readFramed readSheet hostAnswer
-    putHead putArc putMeasured putEstimate putWait putJob shares putChain routeJob noRouteJob
+    putHead putArc putMeasured putEstimate putWait putFactors putJob shares putChain routeJob noRouteJob
     finished endingIf budgetedBy sheetOf answerOf overFront refusedWith endedWith callIf call
 compute = tt

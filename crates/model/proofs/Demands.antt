@@ -4,17 +4,18 @@
 use mathlib.Core.Path.{_≡_, sym, ap, subst, subst⁻¹, _∙_}
 use mathlib.Core.Logic.{_↔_, _⊎_, inl, inr}
 use mathlib.Core.Bool.{true}
-use mathlib.Core.List.{List, [], _∷_, _++_}
+use mathlib.Core.List.{List, [], _∷_, _++_, List·Memᴰ}
 use Prim.Native.Nat.{ℕ, _+_, _-_, _*_, _^_, _≤_, _<_}
 use native.Mathlib.Nat.{le-trans}
 use native.Mathlib.Omega.{arith}
-use lib.ListN.{length}
+use lib.ListN.{length, replicate}
 use Rattle.model.specs.Numbers.{binaryDigits}
 use Rattle.model.specs.Bytes.{Bytes}
 use Rattle.model.specs.Framing.{frame}
 use Rattle.model.specs.Problem.{IsGoal}
 use Rattle.model.specs.Paths.{WalkAlong, GoalReachable, Route, Cheapest, FirstCheapest, FirstWithin, Overstates, Admissible}
-use Rattle.model.specs.Stated.{statedIn, problemOf}
+use Rattle.model.specs.Items.{measured, Lane, ownFactors}
+use Rattle.model.specs.Stated.{fixedFactors, IsTable, statedIn, laneCost, problemOf}
 use Rattle.model.specs.Ways.{Travels}
 use Rattle.model.specs.Refusals.{Row, rows}
 use Rattle.model.specs.Costs.{table}
@@ -24,12 +25,14 @@ use Rattle.model.specs.Sheets.{routeSheet, noRouteSheet, reading, refuse
 use Rattle.model.specs.Routes.{routeTo, firstRoute}
 use Rattle.model.specs.Endings.{budgetedBy}
 use Rattle.model.specs.Answer.{Result, answer, refusedWith, call}
-use Rattle.model.specs.Calls.{Call, problem, allowance, IsAccepted, result, written, Spent, Alike, Program, Defined, Keeps, Writes}
+use Rattle.model.specs.Calls.{Call, itemsIn, problem, allowance, IsAccepted, result, written, Spent, Alike, Program, Defined, Keeps, Writes}
 use Rattle.model.specs.Allowances.{DifferInAllowance}
 use Rattle.model.specs.Jobs.{routeJob, noRouteJob}
 use Rattle.model.specs.Terms.{endsBetween}
 use Rattle.model.proofs.Laws.{admissible-total, never-spent-at-2, has-cheapest}
-use Rattle.model.proofs.Acceptance.{states-growth}
+use Rattle.model.proofs.Acceptance.{states-growth, stated-factors, fixed-factors, accepted-table, accepted-lane-cost}
+use Rattle.model.proofs.OwnTables.{tableRecords, tables-fit, tables-accepted, tables-stated}
+use Rattle.model.proofs.Records.{putRecords, putRecords-is-bytes}
 use Rattle.model.proofs.Ways.{walks-are-ways, routes-are-ways, overstates-by-ways}
 use Rattle.model.proofs.Sheets.{refused-otherwise}
 use Rattle.model.proofs.Rows.{NoneHolds}
@@ -288,6 +291,33 @@ lanes-plus-waits c =
     let s = statedIn (c .input) in
     record { walks = walks-are-ways s; routes = routes-are-ways s; overstates = overstates-by-ways s }
 
+-- Document 02, paper 7, of an accepted call: "The promise on cheapest routes is proved over any table that passes, not per table." The demands above
+-- are of every accepted input; of the factors in force, their proofs know no more than that they pass.
+pub record OwnFactors (c : Call) : Type 0 where
+  -- "Record kind 7 holds eight 2-byte factors that replace the fixed ones for that map", wherever it stands
+  pub replaced : (fs : List ℕ) → List·Memᴰ (ownFactors fs) (itemsIn c) → statedIn (c .input) .factors ≡ fs
+  pub fixed : ((fs : List ℕ) → List·Memᴰ (ownFactors fs) (itemsIn c) → ⊥) → statedIn (c .input) .factors ≡ fixedFactors
+  -- "Each must be 1 to 16, and none smaller than the one before."
+  pub passes : IsTable (statedIn (c .input) .factors)
+  -- so that a lane that is measured costs 1 to 65,520
+  pub lane-cost : (l : Lane) (length class : ℕ) → List·Memᴰ l (statedIn (c .input) .lanes) → l .charge ≡ measured length class
+      → (1 ≤ laneCost (statedIn (c .input)) l) × (laneCost (statedIn (c .input)) l ≤ 65520)
+
+own-factors : (c : Call) → IsAccepted c → OwnFactors c
+own-factors c A = record {
+  replaced = stated-factors (c .input) _ _ A;
+  fixed = fixed-factors (frame (c .input) .records);
+  passes = accepted-table (c .input) _ _ A;
+  lane-cost = accepted-lane-cost (c .input) _ _ A;
+}
+
+every-table : (fs : List ℕ) → IsTable fs → (c : Call) × IsAccepted c × (statedIn (c .input) .factors ≡ fs)
+every-table fs table = (
+  record { input = putRecords (tableRecords fs); work = replicate 16 0; sheet = replicate 12 0; bytes = putRecords-is-bytes _ (tables-fit fs table) },
+  tables-accepted fs table,
+  tables-stated fs table,
+)
+
 -- All demands, of a program.
 pub record Demands (P : Program) : Type 0 where
   pub demand-1 : (c : Call) (r : Result) → P c r → Demand1 c r
@@ -297,6 +327,9 @@ pub record Demands (P : Program) : Type 0 where
   pub counts-stay : (c : Call) (r : Result) → P c r → CountsStay c r
   pub longer-allowance : LongerAllowance P
   pub lanes-plus-waits : (c : Call) → LanesPlusWaits c
+  pub own-factors : (c : Call) → IsAccepted c → OwnFactors c
+  -- and each of the tables that pass is in force in some accepted call
+  pub every-table : (fs : List ℕ) → IsTable fs → (c : Call) × IsAccepted c × (statedIn (c .input) .factors ≡ fs)
 
 -- They hold of every program that keeps to the definition.
 pub demands : (P : Program) → Keeps P → Demands P
@@ -316,4 +349,6 @@ demands P keeps = record {
     floor-below = λ c r g. longer-allowance .floor-below c r (keeps .only c r g);
   };
   lanes-plus-waits = lanes-plus-waits;
+  own-factors = own-factors;
+  every-table = every-table;
 }

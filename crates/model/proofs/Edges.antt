@@ -11,7 +11,7 @@ use Rattle.model.specs.Framing.{Record, frame, putRecord}
 use Rattle.model.specs.Items.{headKind, arcKind, estimateKind, jobKind, measuredKind, waitKind}
 use Rattle.model.specs.Stated.{stated}
 use Rattle.model.specs.Refusals.{wrongSize, refusal}
-use Rattle.model.specs.Jobs.{putHead, putArc, putMeasured, putEstimate, putWait, putJob}
+use Rattle.model.specs.Jobs.{putHead, putArc, putMeasured, putEstimate, putWait, putFactors, putJob}
 use Rattle.model.specs.Sheets.{readSheet, hostAnswer}
 use Rattle.model.proofs.Compute.{compute}
 use Rattle.model.proofs.Runs.{Case, same, seven, over, agrees, agree, case, sheet9}
@@ -47,9 +47,9 @@ mapEdges =
     ∷ refused 1 (one ++ here ++ (0 ∷ []))
     ∷ refused 1 (one ++ here ++ (0 ∷ 0 ∷ 0 ∷ []))
     ∷ refused 1 (one ++ put16 11 ++ put16 jobKind ++ put16 0 ++ put32 9 ++ put16 1 ++ put16 0)
-    -- 2: kinds 0, 7 and 256 + 4
+    -- 2: kinds 0, 8 and 256 + 4
     ∷ refused 2 (one ++ here ++ (0 ∷ 0 ∷ 0 ∷ 0 ∷ []))
-    ∷ refused 2 (one ++ putRecord 7 [] ++ here)
+    ∷ refused 2 (one ++ putRecord 8 [] ++ here)
     ∷ refused 2 (one ++ putRecord 260 (put16 0 ++ put32 9 ++ put16 1 ++ put16 0))
     -- 3: bodies too long and too short; of a job also by its count of goals
     ∷ refused 3 (putRecord headKind (put16 1 ++ put16 0 ++ (0 ∷ [])) ++ here)
@@ -62,6 +62,8 @@ mapEdges =
     ∷ refused 3 (two 0 ++ putRecord estimateKind (put16 1 ++ (1 ∷ 0 ∷ 0 ∷ [])) ++ here)
     ∷ refused 3 (two 0 ++ putRecord waitKind (put16 1 ++ put16 1 ++ (0 ∷ [])) ++ here)
     ∷ refused 3 (two 0 ++ putRecord waitKind (put16 1 ++ (1 ∷ [])) ++ here)
+    ∷ refused 3 (one ++ putFactors (1 ∷ 1 ∷ 1 ∷ 1 ∷ 1 ∷ 1 ∷ 1 ∷ []) ++ here)
+    ∷ refused 3 (one ++ putFactors (1 ∷ 1 ∷ 1 ∷ 1 ∷ 1 ∷ 1 ∷ 1 ∷ 1 ∷ 1 ∷ []) ++ here)
     ∷ refused 3 (one ++ putRecord jobKind (put16 0 ++ put32 9 ++ (0 ∷ [])))
     ∷ refused 3 (one ++ putRecord jobKind (put16 0 ++ put32 9 ++ put16 1 ++ put16 0 ++ put16 0))
     ∷ refused 3 (two 0 ++ putRecord jobKind (put16 0 ++ put32 9 ++ put16 2 ++ put16 0))
@@ -130,6 +132,40 @@ waitEdges =
     ∷ refused 10 (two 0 ++ here ++ putWait 1 5)
     ∷ []
 
+-- a table of ones, and one whose last factors are a and b
+ones : List ℕ
+ones = putFactors (1 ∷ 1 ∷ 1 ∷ 1 ∷ 1 ∷ 1 ∷ 1 ∷ 1 ∷ [])
+
+endingIn : ℕ → ℕ → List ℕ
+endingIn a b = putFactors (1 ∷ 1 ∷ 1 ∷ 1 ∷ 1 ∷ 1 ∷ a ∷ b ∷ [])
+
+-- 22: factors 0 and 17, beside 1 and 16; a fall, at the end and at the beginning, beside equal factors; a second table, an equal one too; after 20
+-- and before 21, which goes by the table in force, wherever that stands
+factorEdges : List Case
+factorEdges =
+    passes 1 0 (one ++ ones ++ here)
+    ∷ refused 22 (one ++ putFactors (0 ∷ 1 ∷ 1 ∷ 1 ∷ 1 ∷ 1 ∷ 1 ∷ 1 ∷ []) ++ here)
+    ∷ passes 1 0 (one ++ endingIn 16 16 ++ here)
+    ∷ refused 22 (one ++ endingIn 16 17 ++ here)
+    ∷ refused 22 (one ++ endingIn 2 257 ++ here)
+    ∷ refused 22 (one ++ endingIn 3 2 ++ here)
+    ∷ refused 22 (one ++ endingIn 3 0 ++ here)
+    ∷ passes 1 0 (one ++ endingIn 2 3 ++ here)
+    ∷ refused 22 (one ++ putFactors (2 ∷ 1 ∷ 2 ∷ 2 ∷ 2 ∷ 2 ∷ 2 ∷ 2 ∷ []) ++ here)
+    ∷ refused 22 (one ++ ones ++ ones ++ here)
+    ∷ refused 22 (one ++ ones ++ endingIn 1 2 ++ here)
+    ∷ refused 22 (one ++ ones ++ endingIn 2 1 ++ here)
+    ∷ refused 20 (two 1 ++ endingIn 2 1 ++ putMeasured 0 1 1 8 ++ here)
+    ∷ refused 22 (two 1 ++ putArc 0 1 1 ++ putWait 0 65535 ++ endingIn 2 1 ++ here)
+    ∷ refused 22 (one ++ ones ++ here ++ ones)
+    ∷ refused 10 (one ++ here ++ ones)
+    ∷ refused 4 (ones ++ one ++ here)
+    ∷ passes 2 1 (two 1 ++ putWait 0 61440 ++ putMeasured 0 1 4095 7 ++ ones ++ here)
+    ∷ refused 21 (two 1 ++ putWait 0 61441 ++ putMeasured 0 1 4095 7 ++ ones ++ here)
+    ∷ refused 21 (two 1 ++ endingIn 16 16 ++ putWait 0 16 ++ putMeasured 0 1 4095 6 ++ here)
+    ∷ passes 2 1 (two 1 ++ endingIn 16 16 ++ putWait 0 15 ++ putMeasured 0 1 4095 6 ++ here)
+    ∷ []
+
 jobEdges : List Case
 jobEdges =
     -- 10: no job, two jobs, one that is not last
@@ -177,8 +213,9 @@ roomEdges =
     ∷ lent 33 13 14
     ∷ []
 
-edges-agree : agree (mapEdges ++ waitEdges ++ jobEdges ++ roomEdges) ≡ true
-unfolding compute same seven over agrees agree case here sheet0 arrived passes refused one two mapEdges waitEdges jobEdges lent roomEdges
+edges-agree : agree (mapEdges ++ waitEdges ++ factorEdges ++ jobEdges ++ roomEdges) ≡ true
+unfolding compute same seven over agrees agree case here sheet0 arrived passes refused one two mapEdges waitEdges ones endingIn factorEdges jobEdges
+    lent roomEdges
 edges-agree = refl
 
 -- ---- The largest numbers. Of whole inputs as large as these only the refusal can be computed, or one condition.

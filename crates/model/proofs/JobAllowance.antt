@@ -11,11 +11,12 @@ use borrow.Author.Tests.{eqb-true, not-false}
 use Rattle.model.specs.Lists.{any, isGiven, consIf, filterMap}
 use Rattle.model.specs.Framing.{Record, Framed}
 use Rattle.model.specs.Items.{Size, Item, job, Job, itemOf, items, bodyLength, misfits, sizeIn, laneIn, estimateIn, jobIn, waitIn}
-use Rattle.model.specs.Stated.{Stated, noSize, noJob, statedBy, stated, laneCost, waitAt, arcOf, problemOf}
+use Rattle.model.specs.Items.{factorsIn}
+use Rattle.model.specs.Stated.{Stated, noSize, noJob, fixedFactors, statedBy, stated, laneCost, waitAt, arcOf, problemOf}
 use Rattle.model.specs.Refusals.{unknownKind, wrongLength, beginsWithHead, wrongHead, wrongSize, outsideMap, freeArc}
-use Rattle.model.specs.Refusals.{largeEstimate, twoEstimates, wrongMeasure, wrongWait, endsWithJob, wrongJob}
+use Rattle.model.specs.Refusals.{largeEstimate, twoEstimates, wrongMeasure, wrongFactors, wrongWait, endsWithJob, wrongJob}
 use Rattle.model.specs.Refusals.{jobOutsideMap, wrongGoals, goalEstimate}
-use Rattle.model.specs.Refusals.{formRows, sizeRows, mapRows, costRows, jobRows, inputRows, roomRows, rows, holdsAt, refusal}
+use Rattle.model.specs.Refusals.{formRows, sizeRows, mapRows, factorRows, costRows, jobRows, inputRows, roomRows, rows, holdsAt, refusal}
 use Rattle.model.proofs.Lists.{neither}
 use Rattle.model.proofs.Tests.{any-append, filterMap-append}
 use Rattle.model.proofs.Rows.{row-fails, rows-numbered}
@@ -60,13 +61,13 @@ module _ (is ls : List Item) (j k : Job) (same : SameJob j k) where
   others f says = rw (filterMap-append f is (job j ∷ ls), filterMap-append f is (job k ∷ ls), says j, says k) refl
 
   same-stated : SameStated (statedBy (with j)) (statedBy (with k))
-  unfolding statedBy sizeIn laneIn estimateIn waitIn
+  unfolding statedBy sizeIn laneIn estimateIn waitIn factorsIn
   same-stated = record {
     size = ap (λ (l : List Size). headD l noSize) (others sizeIn (λ i. refl));
     lanes = others laneIn (λ i. refl);
     estimates = others estimateIn (λ i. refl);
     waits = others waitIn (λ i. refl);
-    factors = refl;
+    factors = ap (λ (l : List (List ℕ)). headD l fixedFactors) (others factorsIn (λ i. refl));
     growth = refl;
     job = first-job;
   }
@@ -95,6 +96,10 @@ module _ (is ls : List Item) (j k : Job) (same : SameJob j k) where
   unfolding wrongHead sizeIn
   same-heads = rw (same-begin is, others sizeIn (λ i. refl)) refl
 
+  same-factors : wrongFactors (with j) ≡ wrongFactors (with k)
+  unfolding wrongFactors factorsIn
+  same-factors = rw (others factorsIn (λ i. refl)) refl
+
   same-jobs : wrongJob (with j) ≡ wrongJob (with k)
   unfolding wrongJob filterMap consIf jobIn
   same-jobs =
@@ -104,11 +109,12 @@ module _ (is ls : List Item) (j k : Job) (same : SameJob j k) where
       let rest = filterMap jobIn ls in
       rw (same-end is, first, second, length-append js (j ∷ rest), length-append js (k ∷ rest)) refl
 
-same-rows : {s t : Stated} → SameStated s t → (is hs : List Item) → wrongJob is ≡ wrongJob hs
-    → sizeRows s ++ (mapRows s ++ (costRows s ++ jobRows is s)) ≡ sizeRows t ++ (mapRows t ++ (costRows t ++ jobRows hs t))
-unfolding sizeRows mapRows costRows jobRows wrongSize outsideMap freeArc largeEstimate twoEstimates wrongMeasure wrongWait
+same-rows : {s t : Stated} → SameStated s t → (is hs : List Item) → wrongFactors is ≡ wrongFactors hs → wrongJob is ≡ wrongJob hs
+    → sizeRows s ++ (mapRows s ++ (factorRows is ++ (costRows s ++ jobRows is s)))
+    ≡ sizeRows t ++ (mapRows t ++ (factorRows hs ++ (costRows t ++ jobRows hs t)))
+unfolding sizeRows mapRows factorRows costRows jobRows wrongSize outsideMap freeArc largeEstimate twoEstimates wrongMeasure wrongWait
     jobOutsideMap wrongGoals goalEstimate laneCost waitAt arcOf
-same-rows e is hs jobs = rw (e .size, e .lanes, e .estimates, e .waits, e .factors, e .job .start, e .job .goals, jobs) refl
+same-rows e is hs factors jobs = rw (e .size, e .lanes, e .estimates, e .waits, e .factors, e .job .start, e .job .goals, factors, jobs) refl
 
 pub items-with : (rs ls : List Record) (r : Record) (j : Job) → itemOf r ≡ job j → items (rs ++ (r ∷ ls)) ≡ items rs ++ (job j ∷ items ls)
 unfolding items
@@ -142,6 +148,9 @@ module _ (rs ls : List Record) (r q : Record) (j k : Job) (is-job : itemOf r ≡
       let heads = same-heads (items rs) (items ls) j k same in
       rw (first-items, second-items, kinds, heads, any-append misfits rs (r ∷ ls), any-append misfits rs (q ∷ ls), fits) refl
 
+  same-factors-stated : wrongFactors (items first) ≡ wrongFactors (items second)
+  same-factors-stated = rw (first-items, second-items) (same-factors (items rs) (items ls) j k same)
+
   same-jobs-stated : wrongJob (items first) ≡ wrongJob (items second)
   same-jobs-stated = rw (first-items, second-items) (same-jobs (items rs) (items ls) j k same)
 
@@ -149,7 +158,7 @@ module _ (rs ls : List Record) (r q : Record) (j k : Job) (is-job : itemOf r ≡
       → refusal (record { records = first; broken = broken }) words bytes ≡ refusal (record { records = second; broken = broken }) words bytes
   unfolding refusal rows inputRows
   refused-same broken words bytes =
-      rw (same-form broken, same-rows states-same (items first) (items second) same-jobs-stated, states-same .size) refl
+      rw (same-form broken, same-rows states-same (items first) (items second) same-factors-stated same-jobs-stated, states-same .size) refl
 
 -- ---- What acceptance says of the job
 
@@ -160,7 +169,7 @@ pub record OneLastJob (f : Framed) : Type 0 where
   pub last : endsWithJob (items (f .records)) ≡ true
 
 pub one-last-job : (f : Framed) (words bytes : ℕ) → refusal f words bytes ≡ 0 → OneLastJob f
-unfolding refusal rows inputRows formRows sizeRows mapRows costRows jobRows roomRows holdsAt wrongJob
+unfolding refusal rows inputRows formRows sizeRows mapRows factorRows costRows jobRows roomRows holdsAt wrongJob
 one-last-job f words bytes A =
     let no-row = row-fails (rows f words bytes) (rows-numbered f words bytes) A in
     let jobs = neither (not (eqb (length (filterMap jobIn (items (f .records)))) 1)) (not (endsWithJob (items (f .records)))) (no-row 10) in

@@ -3,8 +3,9 @@
 
 -- What acceptance gives: the problem of every accepted input is valid.
 pub use Rattle.model.proofs.Acceptance.{accepted-valid}
--- A lane costs 1 to 65,535 whatever its kind, under every table that has a factor from 1 to 16 for each class; the fixed one has.
-pub use Rattle.model.proofs.Charges.{lane-cost-above, lane-cost-below, fixed-table}
+-- Under every table that passes, as the fixed one does, a lane that is measured costs 1 to 65,520, and any lane 1 to 65,535. The factors in force pass.
+pub use Rattle.model.proofs.Charges.{measured-cost, lane-cost-above, lane-cost-below, fixed-table}
+pub use Rattle.model.proofs.Acceptance.{accepted-table}
 -- The problem's walks are just the ways over the lanes that are stated, and cost lanes plus waits.
 pub use Rattle.model.proofs.Ways.{walks-are-ways}
 -- ---- Least costs

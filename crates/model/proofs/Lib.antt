@@ -14,6 +14,7 @@ pub mod Items
 pub mod Rows
 pub mod Charges
 pub mod Acceptance
+pub mod OwnTables
 pub mod Ways
 pub mod Relaxing
 pub mod LeastCosts

@@ -1,5 +1,5 @@
 -- Laws of tests and choices over lists. Assumes nothing.
-use mathlib.Core.Path.{_≡_, refl, sym, _∙_, ap}
+use mathlib.Core.Path.{_≡_, refl, sym, _∙_, ap, ap₂}
 use mathlib.Core.Logic.{_↔_, _⊎_, inl, inr, ⊎-elim}
 use mathlib.Core.Bool.{Bool, true, false, cond, not, _&&_, _||_, true≢false, false≢true}
 use mathlib.Core.List.{List, [], _∷_, _++_, map, List·Memᴰ, List·Memᴰ·head, List·Memᴰ·tail, List·Memᴰ·not-nil, List·Memᴰ·cases-cons, Memᴰ·cast}
@@ -7,11 +7,13 @@ use mathlib.Core.List.{List·Memᴰ·append-cases, List·Memᴰ·eq-of-singleton
 use mathlib.Core.Option.{Option, none, some, Option·none-ne-some, Option·some-injective}
 use Prim.Native.Nat.{ℕ, zero, suc, _+_, _≤_, _<_}
 use native.Mathlib.Decide.{ℕ-discrete}
+use native.Mathlib.Numerals.{add-one}
 use native.Mathlib.Omega.{arith}
 use lib.Dec.{ltb, eqb}
-use lib.ListN.{length, getD, length-append}
+use lib.ListN.{length, getD, set, length-append}
+use lib.Seq.{paste, paste-suc}
 use borrow.Author.Tests.{ltb-true, ltb-false, le-ltb, eqb-true, eqb-false, eq-eqb}
-use Rattle.model.specs.Lists.{any, filter, consIf, filterMap, lesser, leastBy, least, member, repeats, below}
+use Rattle.model.specs.Lists.{any, filter, consIf, filterMap, lesser, leastBy, least, member, repeats, sameNumbers, below}
 
 pub none-some : {A B : Type 0} {x : A} → _≡_ {A = Option A} none (some x) → B
 none-some e = absurd (Option·none-ne-some _ e)
@@ -248,6 +250,11 @@ any-false-at f d [] e i h = absurd (omega arith)
 any-false-at f d (x ∷ xs) e zero h = neither (f x) (any f xs) e .0
 any-false-at f d (x ∷ xs) e (suc i) h = any-false-at f d xs (neither (f x) (any f xs) e .1) i (omega arith)
 
+pub any-none-at : {A : Type 0} (f : A → Bool) (d : A) (xs : List A) → ((i : ℕ) → i < length xs → f (getD xs i d) ≡ false) → any f xs ≡ false
+unfolding any
+any-none-at f d [] fails = refl
+any-none-at f d (x ∷ xs) fails = rw (fails 0 (omega arith)) (any-none-at f d xs (λ i h. fails (suc i) (omega arith)))
+
 pub not-true-false : (b : Bool) → (b ≡ true → ⊥) → b ≡ false
 not-true-false true h = absurd (h refl)
 not-true-false false h = refl
@@ -293,3 +300,25 @@ pub below-length : (n : ℕ) → length (below n) ≡ n
 unfolding below
 below-length zero = refl
 below-length (suc n) = omega (arith, length-append (below n) (n ∷ []), below-length n)
+
+-- one more element of a run is put, where i is its place by the code's sum
+pub one-more : (area : List ℕ) (from : ℕ) (new : List ℕ) (n : ℕ) {i : ℕ} {now : List ℕ} → i ≡ from + n → i < length area → n < length new
+    → now ≡ paste area from new n → set now i (getD new n 0) ≡ paste area from new (n + 1)
+one-more area from new n at inside more are = rw (at, are, add-one n) (paste-suc area from new n 0 (omega arith) more)
+
+-- lists have the same numbers exactly where they are the same list
+pub same-numbers : (xs ys : List ℕ) → (sameNumbers xs ys ≡ true) ↔ (xs ≡ ys)
+unfolding sameNumbers
+same-numbers xs ys = (equal xs ys, λ e. rw (← e) (own xs))
+  where
+    own : (xs : List ℕ) → sameNumbers xs xs ≡ true
+    own [] = refl
+    own (x ∷ xs) = rw (eq-eqb x x refl) (own xs)
+
+    equal : (xs ys : List ℕ) → sameNumbers xs ys ≡ true → xs ≡ ys
+    equal [] [] e = refl
+    equal [] (y ∷ ys) e = absurd (false≢true e)
+    equal (x ∷ xs) [] e = absurd (false≢true e)
+    equal (x ∷ xs) (y ∷ ys) e =
+        let (first, rest) = both (eqb x y) (sameNumbers xs ys) e in
+        ap₂ {C = List ℕ} _∷_ (eqb-true x y first) (equal xs ys rest)

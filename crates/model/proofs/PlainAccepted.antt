@@ -13,11 +13,12 @@ use Rattle.model.specs.Framing.{Record}
 use Rattle.model.specs.Limits.{maxPlaces, maxArcs, maxCost}
 use Rattle.model.specs.Problem.{Arc, Valid}
 use Rattle.model.specs.Items.{arcKind, Lane, Item, lane, laneOf, jobOf, itemOf, chargeBytes, bodyLength, otherThan, misfits, sizeIn, jobIn}
+use Rattle.model.specs.Items.{factorsIn}
 use Rattle.model.specs.Stated.{lookup}
 use Rattle.model.specs.Refusals.{unknownKind, wrongLength, beginsWithHead, wrongHead, wrongSize, outsideMap, isFree, freeArc}
-use Rattle.model.specs.Refusals.{largeEstimate, twoEstimates, mismeasured, wrongMeasure, wrongWait}
+use Rattle.model.specs.Refusals.{largeEstimate, twoEstimates, mismeasured, wrongMeasure, wrongFactors, wrongWait}
 use Rattle.model.specs.Refusals.{endsWithJob, wrongJob, jobOutsideMap, wrongGoals, goalEstimate}
-use Rattle.model.specs.Refusals.{shortWork, shortSheet, formRows, sizeRows, mapRows, costRows, jobRows, inputRows, roomRows, rows}
+use Rattle.model.specs.Refusals.{shortWork, shortSheet, formRows, sizeRows, mapRows, factorRows, costRows, jobRows, inputRows, roomRows, rows}
 use Rattle.model.specs.Refusals.{firstThatHolds, refusal, Accepted}
 use Rattle.model.proofs.Tests.{any-none, or-none}
 use Rattle.model.proofs.PlainJobs.{plain, plainJob, withArcs, plainRecords, plain-framed, flatLane, plainItems, plainStated}
@@ -57,6 +58,10 @@ module _ (arcs : List Arc) (start goal : ℕ) where
   right-head : wrongHead (plainItems arcs start goal) ≡ false
   unfolding plainItems wrongHead beginsWithHead sizeIn isGiven filterMap consIf
   right-head = rw (lanes-give-none sizeIn (λ a. refl) arcs)
+
+  no-wrong-factors : wrongFactors (plainItems arcs start goal) ≡ false
+  unfolding plainItems wrongFactors factorsIn filterMap consIf any
+  no-wrong-factors = rw (lanes-give-none factorsIn (λ a. refl) arcs)
 
   right-job : wrongJob (plainItems arcs start goal) ≡ false
   unfolding plainItems wrongJob jobIn isGiven filterMap consIf
@@ -122,7 +127,7 @@ module _ (arcs : List Arc) (start goal : ℕ) (few : length arcs ≤ maxArcs) (o
 
   pub plain-accepted : (words bytes : ℕ) → 16 * maxPlaces + 2 * length arcs ≤ words → 10 + 2 * maxPlaces ≤ bytes
       → Accepted (plainJob arcs start goal) words bytes
-  unfolding refusal rows inputRows formRows sizeRows mapRows costRows jobRows roomRows firstThatHolds
+  unfolding refusal rows inputRows formRows sizeRows mapRows factorRows costRows jobRows roomRows firstThatHolds
   plain-accepted words bytes h k =
       rw (
         plain-framed arcs start goal,
@@ -137,6 +142,7 @@ module _ (arcs : List Arc) (start goal : ℕ) (few : length arcs ≤ maxArcs) (o
         no-bad-estimate .0,
         no-bad-estimate .1,
         no-wrong-measure,
+        no-wrong-factors arcs start goal,
         no-wrong-wait,
         right-job arcs start goal,
         job-inside-map,

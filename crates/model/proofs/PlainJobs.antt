@@ -13,7 +13,7 @@ use Rattle.model.specs.Framing.{Record, frame, putRecord}
 use Rattle.model.specs.Limits.{maxPlaces, maxArcs}
 use Rattle.model.specs.Problem.{Problem, Arc, Valid}
 use Rattle.model.specs.Items.{headKind, arcKind, jobKind, Lane, flat, Item, head, lane, job, headOf, laneOf, jobOf, itemOf, items}
-use Rattle.model.specs.Items.{sizeIn, laneIn, estimateIn, jobIn, waitIn}
+use Rattle.model.specs.Items.{sizeIn, laneIn, estimateIn, jobIn, waitIn, factorsIn}
 use Rattle.model.specs.Stated.{Stated, fixedFactors, statedBy, stated, lookup, costUnder, laneCost, waitAt, arcOf, problemOf}
 use Rattle.model.specs.Jobs.{putHead, putArc, putJob, ample}
 use Rattle.model.proofs.Bytes.{two-bytes, append-bytes, put16-is-bytes, put32-is-bytes, put16s-is-bytes}
@@ -163,19 +163,20 @@ lanes-given [] is = refl
 lanes-given (a ∷ arcs) is = ap {B = List Lane} (λ ls. flatLane a ∷ ls) (lanes-given arcs is)
 
 pub plain-states : (arcs : List Arc) (start goal : ℕ) → statedBy (plainItems arcs start goal) ≡ plainStated arcs start goal
-unfolding plainItems plainStated statedBy filterMap consIf sizeIn laneIn estimateIn jobIn waitIn headD
+unfolding plainItems plainStated statedBy filterMap consIf sizeIn laneIn estimateIn jobIn waitIn factorsIn headD
 plain-states arcs start goal =
     let last : List Item = job (record { start = start; allowance = ample; goals = goal ∷ [] }) ∷ [] in
     let jobs = lanes-give-none jobIn (λ a. refl) arcs last in
     let estimates = lanes-give-none estimateIn (λ a. refl) arcs last in
     let waits = lanes-give-none waitIn (λ a. refl) arcs last in
+    let factors = lanes-give-none factorsIn (λ a. refl) arcs last in
     let lanes = lanes-given arcs last ∙ append-nil (map flatLane arcs) in
     λ i. record {
       size = record { places = maxPlaces; arcs = length arcs };
       lanes = lanes i;
       estimates = estimates i;
       waits = waits i;
-      factors = fixedFactors;
+      factors = headD (factors i) fixedFactors;
       growth = 2;
       job = headD (jobs i) (record { start = 0; allowance = 0; goals = [] });
     }

@@ -10,7 +10,8 @@ use Rattle.model.specs.Lists.{any}
 use Rattle.model.specs.Framing.{Framed}
 use Rattle.model.specs.Stated.{stated}
 use Rattle.model.specs.Items.{items}
-use Rattle.model.specs.Refusals.{Row, firstThatHolds, firstOf, holdsAt, formRows, sizeRows, mapRows, costRows, jobRows, inputRows, roomRows, rows}
+use Rattle.model.specs.Refusals.{Row, firstThatHolds, firstOf, holdsAt, formRows, sizeRows, mapRows, factorRows, costRows, jobRows, inputRows}
+use Rattle.model.specs.Refusals.{roomRows, rows}
 use Rattle.model.specs.Refusals.{refusal, inputRefusal}
 use Rattle.model.proofs.Lists.{neither}
 
@@ -83,16 +84,16 @@ groups (r ∷ rs) ss numbered =
 -- ---- The table of a route
 
 pub rows-numbered : (f : Framed) (words bytes : ℕ) → Numbered (rows f words bytes)
-unfolding rows inputRows formRows sizeRows mapRows costRows jobRows roomRows any
+unfolding rows inputRows formRows sizeRows mapRows factorRows costRows jobRows roomRows any
 rows-numbered f words bytes = refl
 
 -- 16 is no refusal's number
 pub no-refusal-16 : (f : Framed) (words bytes : ℕ) → refusal f words bytes ≡ 16 → ⊥
-unfolding refusal rows inputRows formRows sizeRows mapRows costRows jobRows roomRows any
+unfolding refusal rows inputRows formRows sizeRows mapRows factorRows costRows jobRows roomRows any
 no-refusal-16 f words bytes e = let none : _≡_ {A = ℕ} 16 0 = not-given 16 (rows f words bytes) refl e in omega arith
 
 pub input-numbered : (f : Framed) → Numbered (inputRows f)
-unfolding inputRows formRows sizeRows mapRows costRows jobRows any
+unfolding inputRows formRows sizeRows mapRows factorRows costRows jobRows any
 input-numbered f = refl
 
 -- the call adds the rows of what is lent
@@ -107,14 +108,17 @@ pub input-groups : (f : Framed)
     ≡ firstOf (firstThatHolds (formRows f))
     (firstOf (firstThatHolds (sizeRows (stated (f .records))))
     (firstOf (firstThatHolds (mapRows (stated (f .records))))
-    (firstOf (firstThatHolds (costRows (stated (f .records)))) (firstThatHolds (jobRows (items (f .records)) (stated (f .records)))))))
-unfolding inputRefusal inputRows formRows sizeRows mapRows costRows any
+    (firstOf (firstThatHolds (factorRows (items (f .records))))
+    (firstOf (firstThatHolds (costRows (stated (f .records)))) (firstThatHolds (jobRows (items (f .records)) (stated (f .records))))))))
+unfolding inputRefusal inputRows formRows sizeRows mapRows factorRows costRows any
 input-groups f =
     let s = stated (f .records) in
+    let factors = factorRows (items (f .records)) in
     let job = jobRows (items (f .records)) s in
     rw (
-      groups (formRows f) (sizeRows s ++ (mapRows s ++ (costRows s ++ job))) refl,
-      groups (sizeRows s) (mapRows s ++ (costRows s ++ job)) refl,
-      groups (mapRows s) (costRows s ++ job) refl,
+      groups (formRows f) (sizeRows s ++ (mapRows s ++ (factors ++ (costRows s ++ job)))) refl,
+      groups (sizeRows s) (mapRows s ++ (factors ++ (costRows s ++ job))) refl,
+      groups (mapRows s) (factors ++ (costRows s ++ job)) refl,
+      groups factors (costRows s ++ job) refl,
       groups (costRows s) job refl,
     )

@@ -1,5 +1,6 @@
 -- Document 01, "Runs by hand": P1 to P10 as rows of one table, and the table as one theorem, computed from the definitions; then runs with
--- several goals, one over lanes of all classes, some where the fewest places decide, and some with waits.
+-- several goals, one over lanes of all classes, some where the fewest places decide, some with waits, and some with factors
+-- of their own.
 use mathlib.Core.Path.{_≡_, refl}
 use mathlib.Core.Bool.{Bool, true, false, _&&_}
 use mathlib.Core.List.{List, [], _∷_, _++_}
@@ -9,7 +10,7 @@ use lib.Dec.{eqb}
 use lib.ListN.{length, replicate}
 use Rattle.model.specs.Bytes.{put16, put32, put16s}
 use Rattle.model.specs.Framing.{putRecord}
-use Rattle.model.specs.Jobs.{putHead, putArc, putMeasured, putEstimate, putWait, putJob}
+use Rattle.model.specs.Jobs.{putHead, putArc, putMeasured, putEstimate, putWait, putFactors, putJob}
 use Rattle.model.specs.Problem.{Problem}
 use Rattle.model.specs.Costs.{table}
 use Rattle.model.specs.Query.{nextLimit}
@@ -255,3 +256,32 @@ waitRuns =
 wait-runs-agree : agree waitRuns ≡ true
 unfolding compute doors dearLane dearMeasure same seven over agrees agree case numbers routeSheetOf sheet6 waitRuns
 wait-runs-agree = refl
+
+-- Document 02, paper 7: by way of 1 two lanes of 4 feet in class 0, by way of 2 one of 1 foot in class 3 and one of 2 in class 7. By the fixed factors
+-- that is 8 and 36; the table stands before the lanes, between them or behind them.
+twoFloors : (before between behind : List ℕ) → List ℕ
+twoFloors before between behind =
+    putHead 4 4 ++ before
+    ++ putMeasured 0 1 4 0 ++ putMeasured 1 3 4 0 ++ between ++ putMeasured 0 2 1 3 ++ putMeasured 2 3 2 7
+    ++ behind ++ putJob 0 944 (3 ∷ [])
+
+-- all lanes cost their length, and all cost 16 times that
+allOnes : List ℕ
+allOnes = putFactors (1 ∷ 1 ∷ 1 ∷ 1 ∷ 1 ∷ 1 ∷ 1 ∷ 1 ∷ [])
+
+all16 : List ℕ
+all16 = putFactors (16 ∷ 16 ∷ 16 ∷ 16 ∷ 16 ∷ 16 ∷ 16 ∷ 16 ∷ [])
+
+-- their numbers are those of tests/reference.py
+factorRuns : List Case
+factorRuns =
+    case (twoFloors [] [] []) (numbers 0 8 8 0 16 10 16) 72 (routeSheetOf 8 (0 ∷ 1 ∷ 3 ∷ []))
+    ∷ case (twoFloors allOnes [] []) (numbers 0 3 6 0 7 5 16) 72 (routeSheetOf 3 (0 ∷ 2 ∷ 3 ∷ []))
+    ∷ case (twoFloors [] allOnes []) (numbers 0 3 6 0 7 5 16) 72 (routeSheetOf 3 (0 ∷ 2 ∷ 3 ∷ []))
+    ∷ case (twoFloors [] [] allOnes) (numbers 0 3 6 0 7 5 16) 72 (routeSheetOf 3 (0 ∷ 2 ∷ 3 ∷ []))
+    ∷ case (twoFloors [] all16 []) (numbers 0 48 96 0 11 9 16) 72 (routeSheetOf 48 (0 ∷ 2 ∷ 3 ∷ []))
+    ∷ []
+
+factor-runs-agree : agree factorRuns ≡ true
+unfolding compute twoFloors allOnes all16 same seven over agrees agree case numbers routeSheetOf factorRuns
+factor-runs-agree = refl

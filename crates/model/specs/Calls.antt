@@ -5,6 +5,8 @@ use Prim.Native.Nat.{ℕ}
 use lib.ListN.{length, take}
 use Rattle.model.specs.Bytes.{Bytes}
 use Rattle.model.specs.Problem.{Problem}
+use Rattle.model.specs.Framing.{frame}
+use Rattle.model.specs.Items.{Item, items}
 use Rattle.model.specs.Stated.{statedIn, problemOf}
 use Rattle.model.specs.Refusals.{Accepted}
 use Rattle.model.specs.Answer.{Result, route}
@@ -17,6 +19,10 @@ pub record Call : Type 0 where
   pub bytes : Bytes input
 
 module _ (c : Call) where
+  -- what the input's records say
+  abbrev pub itemsIn : List Item
+  itemsIn = items (frame (c .input) .records)
+
   -- the problem and the allowance that the input states
   abbrev pub problem : Problem
   problem = problemOf (statedIn (c .input))

@@ -28,6 +28,10 @@ measuredKind = 5
 abbrev pub waitKind : ℕ
 waitKind = 6
 
+-- the owner's own factors
+abbrev pub factorsKind : ℕ
+factorsKind = 7
+
 -- how many bytes a body has; a job's, before its goals
 abbrev pub headBytes : ℕ
 headBytes = 4
@@ -46,6 +50,9 @@ measuredBytes = 8
 
 abbrev pub waitBytes : ℕ
 waitBytes = 4
+
+abbrev pub factorsBytes : ℕ
+factorsBytes = 16
 
 -- head: places N, arcs M
 pub record Size : Type 0 where
@@ -80,6 +87,8 @@ pub data Item : Type 0 where
   estimate : PlaceValue → Item
   job : Job → Item
   wait : PlaceValue → Item
+  -- factors that replace the fixed ones
+  ownFactors : List ℕ → Item
   -- a kind that the papers do not have
   other : Item
 
@@ -107,6 +116,10 @@ jobOf b = record { start = u16 b 0; allowance = u32 b 2; goals = u16s (u16 b 6) 
 unfoldable pub waitOf : List ℕ → PlaceValue
 waitOf b = record { place = u16 b 0; value = u16 b 2 }
 
+-- Document 02, paper 7: "Record kind 7 holds eight 2-byte factors"
+unfoldable pub factorsOf : List ℕ → List ℕ
+factorsOf b = u16s 8 b 0
+
 unfoldable pub itemOf : Record → Item
 itemOf r =
     let b = r .body in
@@ -115,7 +128,8 @@ itemOf r =
     (cond (eqb (r .kind) estimateKind) (estimate (estimateOf b))
     (cond (eqb (r .kind) jobKind) (job (jobOf b))
     (cond (eqb (r .kind) measuredKind) (lane (measuredOf b))
-    (cond (eqb (r .kind) waitKind) (wait (waitOf b)) other)))))
+    (cond (eqb (r .kind) waitKind) (wait (waitOf b))
+    (cond (eqb (r .kind) factorsKind) (ownFactors (factorsOf b)) other))))))
 
 unfoldable pub chargeBytes : Charge → ℕ
 chargeBytes (flat cost) = arcBytes
@@ -128,6 +142,7 @@ bodyLength (lane l) = some (chargeBytes (l .charge))
 bodyLength (estimate e) = some estimateBytes
 bodyLength (job j) = some (jobBytes + 2 * length (j .goals))
 bodyLength (wait w) = some waitBytes
+bodyLength (ownFactors fs) = some factorsBytes
 bodyLength other = none
 
 unfoldable pub otherThan : Option ℕ → ℕ → Bool
@@ -148,6 +163,7 @@ sizeIn (lane l) = none
 sizeIn (estimate e) = none
 sizeIn (job j) = none
 sizeIn (wait w) = none
+sizeIn (ownFactors fs) = none
 sizeIn other = none
 
 unfoldable pub laneIn : Item → Option Lane
@@ -156,6 +172,7 @@ laneIn (lane l) = some l
 laneIn (estimate e) = none
 laneIn (job j) = none
 laneIn (wait w) = none
+laneIn (ownFactors fs) = none
 laneIn other = none
 
 unfoldable pub estimateIn : Item → Option PlaceValue
@@ -164,6 +181,7 @@ estimateIn (lane l) = none
 estimateIn (estimate e) = some e
 estimateIn (job j) = none
 estimateIn (wait w) = none
+estimateIn (ownFactors fs) = none
 estimateIn other = none
 
 unfoldable pub jobIn : Item → Option Job
@@ -172,6 +190,7 @@ jobIn (lane l) = none
 jobIn (estimate e) = none
 jobIn (job j) = some j
 jobIn (wait w) = none
+jobIn (ownFactors fs) = none
 jobIn other = none
 
 unfoldable pub waitIn : Item → Option PlaceValue
@@ -180,4 +199,14 @@ waitIn (lane l) = none
 waitIn (estimate e) = none
 waitIn (job j) = none
 waitIn (wait w) = some w
+waitIn (ownFactors fs) = none
 waitIn other = none
+
+unfoldable pub factorsIn : Item → Option (List ℕ)
+factorsIn (head s) = none
+factorsIn (lane l) = none
+factorsIn (estimate e) = none
+factorsIn (job j) = none
+factorsIn (wait w) = none
+factorsIn (ownFactors fs) = some fs
+factorsIn other = none

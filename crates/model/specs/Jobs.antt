@@ -4,10 +4,12 @@ use mathlib.Core.List.{List, [], _∷_, _++_, getLastD, headD}
 use Prim.Native.Nat.{ℕ, zero, suc, _-_, _*_, min}
 use lib.Dec.{eqb}
 use lib.ListN.{length}
+use Rattle.model.specs.Lists.{sameNumbers}
 use Rattle.model.specs.Bytes.{put16, put32, put16s}
 use Rattle.model.specs.Framing.{putRecord}
 use Rattle.model.specs.Limits.{maxPlaces, maxCost}
-use Rattle.model.specs.Items.{headKind, arcKind, estimateKind, jobKind, measuredKind, waitKind, Charge, flat, measured, Lane}
+use Rattle.model.specs.Items.{headKind, arcKind, estimateKind, jobKind, measuredKind, waitKind, factorsKind, Charge, flat, measured, Lane}
+use Rattle.model.specs.Stated.{fixedFactors}
 
 unfoldable pub putHead : ℕ → ℕ → List ℕ
 putHead n m = putRecord headKind (put16 n ++ put16 m)
@@ -31,6 +33,13 @@ putEstimate v h = putRecord estimateKind (put16 v ++ put32 h)
 
 unfoldable pub putWait : ℕ → ℕ → List ℕ
 putWait v w = putRecord waitKind (put16 v ++ put16 w)
+
+unfoldable pub putFactors : List ℕ → List ℕ
+putFactors fs = putRecord factorsKind (put16s fs)
+
+-- a table of factors, where it is not the fixed one, which holds without a record
+unfoldable pub putTable : List ℕ → List ℕ
+putTable fs = cond (sameNumbers fs fixedFactors) [] (putFactors fs)
 
 unfoldable pub putJob : ℕ → ℕ → List ℕ → List ℕ
 putJob start allowance goals =

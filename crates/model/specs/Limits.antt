@@ -22,3 +22,7 @@ maxLength = 4095
 
 abbrev pub maxClass : ℕ
 maxClass = 7
+
+-- document 02, paper 7: "Each must be 1 to 16"
+abbrev pub maxFactor : ℕ
+maxFactor = 16

@@ -55,6 +55,19 @@ rises [] = true
 rises (x ∷ []) = true
 rises (x ∷ y ∷ xs) = ltb x y && rises (y ∷ xs)
 
+-- some number is below the one before it
+unfoldable pub falls : List ℕ → Bool
+falls [] = false
+falls (x ∷ []) = false
+falls (x ∷ y ∷ xs) = ltb y x || falls (y ∷ xs)
+
+-- the same numbers in the same order
+unfoldable pub sameNumbers : List ℕ → List ℕ → Bool
+sameNumbers [] [] = true
+sameNumbers [] (y ∷ ys) = false
+sameNumbers (x ∷ xs) [] = false
+sameNumbers (x ∷ xs) (y ∷ ys) = eqb x y && sameNumbers xs ys
+
 -- the numbers below n
 unfoldable pub below : ℕ → List ℕ
 below zero = []

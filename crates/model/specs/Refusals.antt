@@ -6,10 +6,10 @@ use mathlib.Core.List.{List, [], _∷_, _++_, map}
 use Prim.Native.Nat.{ℕ, zero, suc, _+_, _*_}
 use lib.Dec.{ltb, leb, eqb}
 use lib.ListN.{length}
-use Rattle.model.specs.Lists.{any, filterMap, isGiven, repeats, rises}
+use Rattle.model.specs.Lists.{any, filterMap, isGiven, repeats, rises, falls}
 use Rattle.model.specs.Framing.{Record, Framed, frame}
-use Rattle.model.specs.Limits.{maxPlaces, maxArcs, maxCost, maxEstimate, maxGoals, maxLength, maxClass}
-use Rattle.model.specs.Items.{Size, Charge, flat, measured, Lane, PlaceValue, Item, bodyLength, misfits, items, sizeIn, jobIn}
+use Rattle.model.specs.Limits.{maxPlaces, maxArcs, maxCost, maxEstimate, maxGoals, maxLength, maxClass, maxFactor}
+use Rattle.model.specs.Items.{Size, Charge, flat, measured, Lane, PlaceValue, Item, bodyLength, misfits, items, sizeIn, jobIn, factorsIn}
 use Rattle.model.specs.Stated.{Stated, stated, lookup, arcOf}
 
 -- ---- Form: what records there are
@@ -80,6 +80,18 @@ mismeasured (measured length class) = ltb length 1 || ltb maxLength length || lt
 -- 20: "a kind 5 record with a length or class out of range"
 unfoldable pub wrongMeasure : Stated → Bool
 wrongMeasure s = any (λ (l : Lane). mismeasured (l .charge)) (s .lanes)
+
+-- ---- Factors
+
+-- "Each must be 1 to 16, and none smaller than the one before."
+unfoldable pub breaksRules : List ℕ → Bool
+breaksRules factors = any (λ (f : ℕ). ltb f 1 || ltb maxFactor f) factors || falls factors
+
+-- 22: "A second such record or a factor breaking these rules"
+unfoldable pub wrongFactors : List Item → Bool
+wrongFactors is =
+    let tables = filterMap factorsIn is in
+    ltb 1 (length tables) || any breaksRules tables
 
 -- ---- Costs
 
@@ -156,6 +168,10 @@ sizeRows s = row 5 (wrongSize s) ∷ []
 unfoldable pub mapRows : Stated → List Row
 mapRows s = row 6 (outsideMap s) ∷ row 7 (freeArc s) ∷ row 8 (largeEstimate s) ∷ row 9 (twoEstimates s) ∷ row 20 (wrongMeasure s) ∷ []
 
+-- "after 20 and before 21"
+unfoldable pub factorRows : List Item → List Row
+factorRows is = row 22 (wrongFactors is) ∷ []
+
 -- "after 20 and before 10"
 unfoldable pub costRows : Stated → List Row
 costRows s = row 21 (wrongWait s) ∷ []
@@ -166,8 +182,9 @@ jobRows is s = row 10 (wrongJob is) ∷ row 11 (jobOutsideMap s) ∷ row 12 (wro
 -- of an input, whatever is lent
 unfoldable pub inputRows : Framed → List Row
 inputRows f =
+    let is = items (f .records) in
     let s = stated (f .records) in
-    formRows f ++ (sizeRows s ++ (mapRows s ++ (costRows s ++ jobRows (items (f .records)) s)))
+    formRows f ++ (sizeRows s ++ (mapRows s ++ (factorRows is ++ (costRows s ++ jobRows is s))))
 
 -- of what is lent to a route
 unfoldable pub roomRows : Size → (words bytes : ℕ) → List Row

@@ -1,15 +1,17 @@
 -- What the records of an input state, as one thing, and the search problem that is made of it. Of kinds that the papers allow once, the
 -- first record is read.
+use mathlib.Core.Path.{_≡_}
 use mathlib.Core.Bool.{cond}
 use mathlib.Core.List.{List, [], _∷_, map, headD}
-use Prim.Native.Nat.{ℕ, _+_, _*_}
+use Prim.Native.Nat.{ℕ, suc, _+_, _*_, _≤_, _<_}
 use lib.Dec.{eqb}
-use lib.ListN.{getD}
+use lib.ListN.{length, getD}
 use Rattle.model.specs.Lists.{filterMap}
 use Rattle.model.specs.Framing.{Record, frame}
+use Rattle.model.specs.Limits.{maxClass, maxFactor}
 use Rattle.model.specs.Problem.{Problem, Arc}
 use Rattle.model.specs.Items.{Size, Charge, flat, measured, Lane, PlaceValue, Job, Item, items}
-use Rattle.model.specs.Items.{sizeIn, laneIn, estimateIn, jobIn, waitIn}
+use Rattle.model.specs.Items.{sizeIn, laneIn, estimateIn, jobIn, waitIn, factorsIn}
 
 pub record Stated : Type 0 where
   pub size : Size
@@ -33,7 +35,14 @@ noJob = record { start = 0; allowance = 0; goals = [] }
 abbrev pub fixedFactors : List ℕ
 fixedFactors = 1 ∷ 2 ∷ 3 ∷ 4 ∷ 6 ∷ 8 ∷ 12 ∷ 16 ∷ []
 
--- No record states other factors or another growth: "b doubles".
+-- Document 02, paper 7, a table that passes: "Each must be 1 to 16, and none smaller than the one before."
+pub record IsTable (factors : List ℕ) : Type 0 where
+  pub eight : length factors ≡ 8
+  pub above : (class : ℕ) → class ≤ maxClass → 1 ≤ getD factors class 0
+  pub below : (class : ℕ) → class ≤ maxClass → getD factors class 0 ≤ maxFactor
+  pub rising : (class : ℕ) → class < maxClass → getD factors class 0 ≤ getD factors (suc class) 0
+
+-- Document 02, paper 7: factors of a record "replace the fixed ones for that map", wherever it stands. No record states another growth: "b doubles".
 unfoldable pub statedBy : List Item → Stated
 statedBy is =
     record {
@@ -41,7 +50,7 @@ statedBy is =
       lanes = filterMap laneIn is;
       estimates = filterMap estimateIn is;
       waits = filterMap waitIn is;
-      factors = fixedFactors;
+      factors = headD (filterMap factorsIn is) fixedFactors;
       growth = 2;
       job = headD (filterMap jobIn is) noJob;
     }

@@ -4,16 +4,17 @@
 use mathlib.Core.Path.{_≡_}
 use mathlib.Core.Bool.{cond}
 use mathlib.Core.List.{List, [], _∷_, _++_}
-use Prim.Native.Nat.{ℕ, suc, _+_, _≤_}
+use Prim.Native.Nat.{ℕ, suc, _+_, _*_, _≤_}
 use lib.Dec.{eqb}
 use lib.ListN.{length, take, replicate}
+use Rattle.model.specs.Limits.{maxPlaces}
 use Rattle.text.specs.Text.{line, tooLong, Put}
 use Rattle.tally.specs.declared.Tally.{Tally}
 use Rattle.tally.specs.Tallied.{tallyWith}
 use Rattle.jobs.specs.declared.Day.{Day}
 use Rattle.jobs.specs.declared.Status.{Status}
 use Rattle.jobs.specs.declared.Status.the-variants.{TooLong, ShortTally, Reported}
-use Rattle.jobs.specs.Report.{DayResult, report}
+use Rattle.jobs.specs.Report.{numbers, DayResult, report}
 
 -- a number that occurred, and its count
 unfoldable pub countLine : (number count : ℕ) → List ℕ
@@ -49,10 +50,10 @@ goalsText Reported ts = goalLines ts
 unfoldable pub textOf : DayResult → List ℕ
 textOf r = dayText (r .day .status) (r .day) ++ goalsText (r .day .status) (r .tally)
 
--- "in memory as for `route`": 16,384 words and 8,202 bytes; and as many records as the tally needs, so that 15 never comes
 abbrev pub noTally : Tally
 noTally = tallyWith 0 0 0
 
+-- "in memory as for `route`": 16,384 words and 8,202 bytes; and as many records as the tally needs, so that 15 never comes
 unfoldable pub reported : List ℕ → DayResult
 reported input = report input (replicate 16384 0) (replicate 8202 0) (replicate 4096 noTally)
 
@@ -69,16 +70,16 @@ pub record PutWithin (room : ℕ) (new : List ℕ) (at : ℕ) (old text : List �
   pub put : Put new at old text r
   pub short : r ≤ at + room
 
--- how many bytes a line may take that has a number and its count, and one that has three numbers of 64 bits
+-- how many bytes a line may take that has a number and its count, and one that has three numbers of 64 bits: 11 and 21 a number, and 1 more
 abbrev pub countRoom : ℕ
-countRoom = 23
+countRoom = 11 * 2 + 1
 
 abbrev pub wideRoom : ℕ
-wideRoom = 64
+wideRoom = 21 * 3 + 1
 
 -- all that stands before the goals, and all that is printed
 abbrev pub dayRoom : ℕ
-dayRoom = 570
+dayRoom = countRoom * numbers + wideRoom
 
 abbrev pub textRoom : ℕ
-textRoom = 262714
+textRoom = dayRoom + wideRoom * maxPlaces

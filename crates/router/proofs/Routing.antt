@@ -17,7 +17,7 @@ use Rattle.model.specs.Framing.{frame}
 use Rattle.model.specs.Limits.{maxPlaces, maxArcs}
 use Rattle.model.specs.Problem.{Valid}
 use Rattle.model.specs.Stated.{stated, statedIn, problemOf}
-use Rattle.model.specs.Refusals.{wrongSize, shortWork, shortSheet, formRows, sizeRows, mapRows, costRows, jobRows, inputRows, roomRows, rows}
+use Rattle.model.specs.Refusals.{wrongSize, shortWork, shortSheet, formRows, sizeRows, mapRows, factorRows, costRows, jobRows, inputRows, roomRows, rows}
 use Rattle.model.specs.Refusals.{holdsAt, refusal}
 use Rattle.model.specs.Endings.{Ending, budgeted}
 use Rattle.model.specs.Answer as model
@@ -62,21 +62,21 @@ concluded {s} {v} {work₀} w clear is =
 -- what its job states, its areas have room for
 module _ {input work₀ sheet₀ : List ℕ} {j : Job} (s : HasRoom input j work₀ sheet₀) where
   pub enough-words : wordsOf (j .site) ≤ length work₀
-  unfolding rows inputRows formRows sizeRows mapRows costRows jobRows roomRows holdsAt refusal shortWork
+  unfolding rows inputRows formRows sizeRows mapRows factorRows costRows jobRows roomRows holdsAt refusal shortWork
   enough-words =
       let f = frame input in
       let no = row-fails (rows f (length work₀) (length sheet₀)) (rows-numbered f (length work₀) (length sheet₀)) (s .accepted) in
       rw (s .states .places, s .states .arcs) (ltb-false _ _ (no 14))
 
   enough-bytes : bytesOf (j .site) ≤ length sheet₀
-  unfolding rows inputRows formRows sizeRows mapRows costRows jobRows roomRows holdsAt refusal shortSheet
+  unfolding rows inputRows formRows sizeRows mapRows factorRows costRows jobRows roomRows holdsAt refusal shortSheet
   enough-bytes =
       let f = frame input in
       let no = row-fails (rows f (length work₀) (length sheet₀)) (rows-numbered f (length work₀) (length sheet₀)) (s .accepted) in
       rw (s .states .places) (ltb-false _ _ (no 15))
 
   few-arcs : j .site .arcs ≤ maxArcs
-  unfolding rows inputRows formRows sizeRows mapRows costRows jobRows roomRows holdsAt refusal wrongSize
+  unfolding rows inputRows formRows sizeRows mapRows factorRows costRows jobRows roomRows holdsAt refusal wrongSize
   few-arcs =
       let f = frame input in
       let no = row-fails (rows f (length work₀) (length sheet₀)) (rows-numbered f (length work₀) (length sheet₀)) (s .accepted) in

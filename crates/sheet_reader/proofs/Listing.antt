@@ -14,19 +14,10 @@ use borrow.Author.Tests.{leb-false, lt-leb}
 use Rattle.model.specs.Lists.{any, repeats}
 use Rattle.model.specs.Bytes.{u16, u16s}
 use Rattle.model.specs.Limits.{maxPlaces}
-use Rattle.model.proofs.Bytes.{u16s-length}
+use Rattle.model.proofs.Bytes.{u16s-length, u16s-at}
 use Rattle.model.proofs.Indices.{any-nowhere, nowhere-any, repeats-different, different-repeats}
 use Rattle.sheet_reader.specs.Listing.{placeAt, Passed}
 use Rattle.sheet_reader.specs.Read.{Listed}
-
--- field i of n fields
-pub u16s-at : (n : ℕ) (b : List ℕ) (k i : ℕ) → i < n → getD (u16s n b k) i 0 ≡ u16 b (k + 2 * i)
-unfolding u16s
-u16s-at zero b k i l = absurd (omega arith)
-u16s-at (suc n) b k zero l = let at : k ≡ k + 2 * 0 = omega arith in ap (u16 b) at
-u16s-at (suc n) b k (suc i) l =
-    let at : k + 2 + 2 * i ≡ k + 2 * suc i = omega arith in
-    u16s-at n b (k + 2) i (omega arith) ∙ ap (u16 b) at
 
 -- one field more
 u16s-more : (n : ℕ) (b : List ℕ) (k : ℕ) → u16s (suc n) b k ≡ u16s n b k ++ (u16 b (k + 2 * n) ∷ [])

@@ -1,9 +1,9 @@
--- What is printed of three inputs, as the definitions compute it. Assumes nothing.
+-- What is printed of some inputs, as the definitions compute it. Assumes nothing.
 use mathlib.Core.Path.{_≡_, refl}
 use mathlib.Core.List.{[], _∷_, _++_, flatMap}
 use lib.ListN.{replicate}
-use Rattle.model.specs.Lists.{below}
-use Rattle.model.specs.Jobs.{putHead, putArc, putEstimate, putWait, putJob, putCharged, putLane}
+use Rattle.model.specs.Lists.{below, sameNumbers}
+use Rattle.model.specs.Jobs.{putHead, putArc, putMeasured, putEstimate, putWait, putFactors, putTable, putJob, putCharged, putLane}
 use Rattle.model.proofs.Compute.{compute}
 use Rattle.sort.specs.Sorting.{sortBy, insert}
 use Rattle.map_writer.specs.Order.{kindFields, orderFields, noGreater, noLater}
@@ -22,9 +22,18 @@ nothing = refl
 two-lanes : printed (putHead 2 2 ++ putWait 1 7 ++ putEstimate 1 0 ++ putArc 1 0 1 ++ putArc 0 1 256 ++ putWait 0 0 ++ putJob 1 944 (0 ∷ []))
     ≡ streams (putHead 2 2 ++ putArc 0 1 256 ++ putArc 1 0 1 ++ putWait 1 7 ++ putJob 1 944 (0 ∷ [])) []
 unfolding
-    compute flatMap below insert sortBy kindFields orderFields noGreater noLater byPlace nonzeroByPlace canonical putCharged putLane putStated write
+    compute flatMap below insert sortBy kindFields orderFields noGreater noLater byPlace nonzeroByPlace canonical sameNumbers putTable putCharged putLane putStated
+    write
     shortOutput outputRows writeRows writeRefusal writtenWith writeIf writeMap decimalUpTo decimal parted line streamsOf answered printed
 two-lanes = refl
+
+-- a table behind the job's lanes, and two lanes of one class that it puts the other way round
+table-first : printed (putHead 2 2 ++ putMeasured 0 1 3 2 ++ putFactors (1 ∷ 1 ∷ 1 ∷ 1 ∷ 1 ∷ 1 ∷ 1 ∷ 1 ∷ []) ++ putMeasured 0 1 4 0 ++ putJob 1 944 (0 ∷ []))
+    ≡ streams (putHead 2 2 ++ putMeasured 0 1 3 2 ++ putMeasured 0 1 4 0 ++ putFactors (1 ∷ 1 ∷ 1 ∷ 1 ∷ 1 ∷ 1 ∷ 1 ∷ 1 ∷ []) ++ putJob 1 944 (0 ∷ [])) []
+unfolding
+    compute flatMap below insert sortBy kindFields orderFields noGreater noLater byPlace nonzeroByPlace canonical sameNumbers putTable putCharged putLane putStated
+    write shortOutput outputRows writeRows writeRefusal writtenWith writeIf writeMap decimalUpTo decimal parted line streamsOf answered printed
+table-first = refl
 
 long : printed (replicate 65537 0) ≡ streams [] tooLong
 unfolding printed

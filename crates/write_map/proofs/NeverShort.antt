@@ -9,7 +9,7 @@ use lib.ListN.{length}
 use borrow.Author.Tests.{eq-eqb, le-ltb}
 use Rattle.model.specs.Lists.{any}
 use Rattle.model.specs.Stated.{statedIn}
-use Rattle.model.specs.Refusals.{Row, formRows, sizeRows, mapRows, costRows, jobRows, inputRows, firstThatHolds}
+use Rattle.model.specs.Refusals.{Row, formRows, sizeRows, mapRows, factorRows, costRows, jobRows, inputRows, firstThatHolds}
 use Rattle.model.proofs.Lists.{neither}
 use Rattle.map_writer.specs.Call.{shortOutput, outputRows, writeRows, writeRefusal, writeMap}
 use Rattle.map_writer.proofs.Acceptance.{number-given}
@@ -29,7 +29,7 @@ not-given n (r ∷ rs) above fails e =
 
 -- Refusal 15 never comes: the output area is as long as the longest input.
 pub never-short-output : (input : List ℕ) → length input ≤ 65536 → answered input .answer .number ≡ 15 → ⊥
-unfolding answered writeMap writeRefusal writeRows outputRows inputRows formRows sizeRows mapRows costRows jobRows shortOutput any
+unfolding answered writeMap writeRefusal writeRows outputRows inputRows formRows sizeRows mapRows factorRows costRows jobRows shortOutput any
 never-short-output input h e =
     not-given 15 (writeRows input 16384 65536) (λ z. omega arith) (rw (le-ltb 65536 (length input) h))
     (sym (number-given _ (statedIn input) _ _) ∙ e)

@@ -1,4 +1,5 @@
--- Head, lanes, estimates, waits and job, each where the one before it ends: what is left has room.
+-- Head, lanes, estimates, waits, table and job, each where the one before it ends: what is left has room.
+use mathlib.Core.Path.{_∙_}
 use mathlib.Core.List.{List}
 use Prim.Native.Nat.{ℕ}
 use native.Mathlib.Omega.{arith}
@@ -7,8 +8,8 @@ use Rattle.model.specs.Items.{estimateKind, waitKind}
 use Rattle.map.specs.declared.Job.{Job}
 use Rattle.area.specs.Part.{part}
 use Rattle.map_records.specs.Puts.{putLanes, putByPlace, putJobOf, mapText}
-use Rattle.map_records.proofs.PutLoops.{Putting, next-fits, next-put, part-next, afterHead, afterLanes, afterEstimates}
-use Rattle.map_records.proofs.PutLoops.{head-fits, head-put, few-words}
+use Rattle.map_records.proofs.PutLoops.{Putting, next-fits, next-put, table-next, part-next}
+use Rattle.map_records.proofs.PutLoops.{afterHead, afterLanes, afterEstimates, afterWaits, head-fits, head-put, few-words}
 use Rattle.map_records.proofs.put_map.Statement.{statement}
 use Rattle.map_records.proofs.put_map.Tie as tie
 
@@ -27,6 +28,9 @@ regions c = c .before .before .before
 
 abbrev estimated : tie.After-put-by-place2 → tie.After-put-by-place
 estimated c = c .before .before .before .before .before
+
+abbrev waited : tie.After-put-table → tie.After-put-by-place2
+waited c = c .before .before .before .before
 
 -- of the map this is left to be put
 abbrev Left : (List ℕ → Job → List ℕ → List ℕ) → tie.Start → List ℕ → ℕ → Type 0
@@ -53,13 +57,16 @@ after-estimates c =
     next-put next (after-lanes (laned r)) (c .put-by-place .ensures)
 
 after-waits : (c : tie.After-put-by-place2)
-    → Left (λ input j w. putJobOf input j) (entry (headed (laned (regions (estimated c))))) (c .put-by-place2 .last .0)
-    (c .put-by-place2 .result)
+    → Left afterWaits (entry (headed (laned (regions (estimated c))))) (c .put-by-place2 .last .0) (c .put-by-place2 .result)
 unfolding part afterEstimates
 after-waits c =
     let r = regions (estimated c) in
     let next = part-next (putByPlace waitKind 0) _ _ (r .before .waits-at .ensures) (r .ends-at .ensures) in
     next-put next (after-estimates (estimated c)) (c .put-by-place2 .ensures)
+
+after-table : (c : tie.After-put-table)
+    → Left (λ input j w. putJobOf input j) (entry (headed (laned (regions (estimated (waited c)))))) (c .put-table .last .0) (c .put-table .result)
+after-table c = next-put (table-next _ _ _) (after-waits (waited c)) (c .put-table .ensures)
 
 put-head-requires : tie.Need-put-head-requires
 put-head-requires c κs =
@@ -150,16 +157,23 @@ put-by-place-requires-2 c κs =
       next-fits (part-next (putByPlace waitKind 0) _ _ first last) (after-estimates estimates),
     )
 
+put-table-requires : tie.Need-put-table-requires
+put-table-requires c κs =
+    let waits = c .before .before .before in
+    (entry (headed (laned (regions (estimated waits)))) .pre .factors, next-fits (table-next _ _ _) (after-waits waits))
+
 put-job-requires : tie.Need-put-job-requires
 put-job-requires c κs =
-    let waits = c .before .before .before in
-    (entry (headed (laned (regions (estimated waits)))) .pre .goals, after-waits waits .room)
+    let table = c .before .before .before in
+    (entry (headed (laned (regions (estimated (waited table))))) .pre .goals, after-table table .room)
 
 same-length : tie.Need-same-length
-same-length c = search needs
+same-length c =
+    let job = c .before .before in
+    job .put-job .kept .0 ∙ after-table (job .before .before .before .before) .size
 
 returns : tie.Need-returns
-returns c = after-waits (c .before .before .before .before .before .before) .whole (c .before .before .put-job .ensures)
+returns c = after-table (c .before .before .before .before .before .before) .whole (c .before .before .put-job .ensures)
 
 pub put-map-spec : {M : Type 1} → statement M
 put-map-spec =
@@ -188,6 +202,7 @@ put-map-spec =
     part-put-by-place-start-2
     part-put-by-place-end-2
     put-by-place-requires-2
+    put-table-requires
     put-job-requires
     same-length
     returns)

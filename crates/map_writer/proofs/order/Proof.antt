@@ -1,8 +1,7 @@
 -- What is prepared is what placing asks; the rows that are placed are sorted. Assumes nothing.
-use mathlib.Core.Path.{sym}
+use mathlib.Core.Path.{_∙_}
 use lib.ListN.{length}
 use borrow.Author.Needs.{needs}
-use Rattle.model.proofs.Acceptance.{states-factors}
 use Rattle.load.proofs.Known.{Known, known}
 use Rattle.map_writer.proofs.Orders.{can-place, has-rows, ordered}
 use Rattle.map_writer.proofs.order.Statement.{statement}
@@ -22,14 +21,15 @@ before c = c .before .before .before .before .before .before
 prepare-requires : tie.Need-prepare-requires
 prepare-requires c κs = search needs
 
-fixed-factors-requires : tie.Need-fixed-factors-requires
-fixed-factors-requires c κs = search needs
+factors-requires : tie.Need-factors-requires
+factors-requires c κs = search needs
 
 place-records-requires : tie.Need-place-records-requires
 place-records-requires c κs =
     let p = c .before .before .before .before .before in
-    rw (c .before .before .fixed-factors .ensures)
-    (can-place _ _ _ (facts (start p)) _ (p .prepare .kept .1 .1 .0) (p .prepare .ensures) (sym (states-factors _)))
+    let known = facts (start p) in
+    let said = c .before .before .factors .ensures ∙ known .states .factors in
+    can-place _ _ _ known _ (p .prepare .kept .1 .1 .0) (p .prepare .ensures) said
 
 sort-rows-requires : tie.Need-sort-rows-requires
 sort-rows-requires c κs =
@@ -54,7 +54,7 @@ order-spec =
     tie.close
     (tie.spec
     prepare-requires
-    fixed-factors-requires
+    factors-requires
     place-records-requires
     sort-rows-requires
     same-length

@@ -44,6 +44,12 @@ with-wait-requires c κs = search needs
 enum-known-item-6 : tie.Need-enum-known-item-6
 enum-known-item-6 c = search needs
 
+with-factors-requires : tie.Need-with-factors-requires
+with-factors-requires c κs = search needs
+
+enum-known-item-7 : tie.Need-enum-known-item-7
+enum-known-item-7 c = search needs
+
 with-job-requires : tie.Need-with-job-requires
 with-job-requires c κs = search needs
 
@@ -84,15 +90,19 @@ returns-5 c = rw (c .before .before .item5 .given .1) (record { survey = c .with
 
 returns-6 : tie.Need-returns-6
 unfolding noted marksBy
-returns-6 c = rw (c .before .before .item6 .given .1) (record { survey = c .with-job .ensures; mark = refl })
+returns-6 c = rw (c .before .before .item6 .given .1) (record { survey = c .with-factors .ensures; mark = refl })
 
 returns-7 : tie.Need-returns-7
 unfolding noted marksBy
-returns-7 c = rw (c .before .enum-told .given .1) (record { survey = c .after .ensures; mark = refl })
+returns-7 c = rw (c .before .before .item7 .given .1) (record { survey = c .with-job .ensures; mark = refl })
 
 returns-8 : tie.Need-returns-8
 unfolding noted marksBy
-returns-8 c = rw (c .before .enum-told2 .given .1) (record { survey = c .after2 .ensures; mark = refl })
+returns-8 c = rw (c .before .enum-told .given .1) (record { survey = c .after .ensures; mark = refl })
+
+returns-9 : tie.Need-returns-9
+unfolding noted marksBy
+returns-9 c = rw (c .before .enum-told2 .given .1) (record { survey = c .after2 .ensures; mark = refl })
 
 pub with-item-spec : {M : Type 1} → statement M
 with-item-spec =
@@ -111,6 +121,8 @@ with-item-spec =
     enum-known-item-5
     with-wait-requires
     enum-known-item-6
+    with-factors-requires
+    enum-known-item-7
     with-job-requires
     enum-told
     after-requires
@@ -123,4 +135,5 @@ with-item-spec =
     returns-5
     returns-6
     returns-7
-    returns-8)
+    returns-8
+    returns-9)

@@ -33,8 +33,8 @@ returns-3 c =
     let d = e .before .before .before .before in
     map-refused _ _ _ (d .before .before .before .before .pre) _ (within d) (e .if1 .left) (c .if2 .taken)
 
-judge-costs-requires : tie.Need-judge-costs-requires
-judge-costs-requires c κs =
+judge-factors-requires : tie.Need-judge-factors-requires
+judge-factors-requires c κs =
     let e = c .before .before in
     let d = e .before .before .before .before in
     right-map _ _ _ (d .before .before .before .before .pre) _ (within d) (e .if1 .left) (c .if2 .left)
@@ -52,5 +52,5 @@ judge-map-spec =
     returns
     returns-2
     returns-3
-    judge-costs-requires
+    judge-factors-requires
     returns-4)

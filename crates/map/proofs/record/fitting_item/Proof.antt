@@ -3,8 +3,8 @@ use mathlib.Core.Path.{sym, _∙_}
 use mathlib.Core.Bool.{true≢false}
 use borrow.Author.Needs.{needs}
 use Rattle.map.specs.Items.{FitsIn}
-use Rattle.map.proofs.Items.{body-within, lane-says, measured-says, estimate-says, wait-says, head-says, job-says, other-says}
-use Rattle.map.proofs.Items.{lane-fits, measured-fits, estimate-fits, wait-fits, head-fits}
+use Rattle.map.proofs.Items.{body-within, lane-says, measured-says, estimate-says, wait-says, factors-says, head-says, job-says, other-says}
+use Rattle.map.proofs.Items.{lane-fits, measured-fits, estimate-fits, wait-fits, factors-fits, head-fits}
 use Rattle.map.proofs.record.fitting_item.Statement.{statement}
 use Rattle.map.proofs.record.fitting_item.Tie as tie
 
@@ -23,6 +23,9 @@ no-estimate c = c .before .before
 
 abbrev no-wait : tie.Else5 → tie.Else4
 no-wait c = c .before .before
+
+abbrev no-head : tie.Else6 → tie.Else5
+no-head c = c .before .before
 
 sub-len : tie.Need-sub-len
 sub-len c = search needs
@@ -77,15 +80,19 @@ returns-6 c =
     rw (c .job-at .ensures) (job-says _ _ (f .lies) (c .before .if6 .taken))
 
 returns-7 : tie.Need-returns-7
-returns-7 c =
-    let head = c .before .before in
+returns-7 c = factors-says _ _ (can (no-arc (no-measured (no-estimate (no-wait (no-head (c .before .before)))))) .lies) (c .if7 .taken)
+
+returns-8 : tie.Need-returns-8
+returns-8 c =
+    let job = c .before .before in
+    let head = no-head job in
     let wait = no-wait head in
     let estimate = no-estimate wait in
     let measured = no-measured estimate in
     let arc = no-arc measured in
     let f = can arc in
-    other-says _ _ (f .lies) (head .if5 .left) (arc .if1 .left) (estimate .if3 .left) (c .if6 .left) (measured .if2 .left)
-    (λ k. true≢false (sym (wait-fits _ _ f k) ∙ wait .if4 .left))
+    other-says _ _ (f .lies) (head .if5 .left) (arc .if1 .left) (estimate .if3 .left) (job .if6 .left) (measured .if2 .left)
+    (λ k. true≢false (sym (wait-fits _ _ f k) ∙ wait .if4 .left)) (λ k. true≢false (sym (factors-fits _ _ f k) ∙ c .if7 .left))
 
 pub fitting-item-spec : {M : Type 1} → statement M
 fitting-item-spec =
@@ -104,4 +111,5 @@ fitting-item-spec =
     returns-5
     job-at-requires
     returns-6
-    returns-7)
+    returns-7
+    returns-8)

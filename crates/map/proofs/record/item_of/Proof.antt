@@ -1,7 +1,8 @@
 -- `record::item_of` meets its contract, kind by kind. Assumes nothing.
 use borrow.Author.Needs.{needs}
 use Rattle.map.specs.Items.{LiesIn}
-use Rattle.map.proofs.Items.{body-within, lane-says, measured-says, estimate-says, wait-says, head-says, job-says, outside-says, none-fits}
+use Rattle.map.proofs.Items.{body-within, lane-says, measured-says, estimate-says, wait-says, factors-says, head-says, job-says, outside-says}
+use Rattle.map.proofs.Items.{none-fits}
 use Rattle.map.proofs.record.item_of.Statement.{statement}
 use Rattle.map.proofs.record.item_of.Tie as tie
 
@@ -23,6 +24,9 @@ no-wait c = c .before .before
 
 abbrev no-head : tie.Else6 → tie.Else5
 no-head c = c .before .before
+
+abbrev no-job : tie.Else7 → tie.Else6
+no-job c = c .before .before
 
 sub-len : tie.Need-sub-len
 sub-len c = search needs
@@ -68,18 +72,22 @@ returns-6 c =
     rw (c .job-at .ensures) (job-says _ _ (lies known) (c .before .if6 .taken))
 
 returns-7 : tie.Need-returns-7
-returns-7 c = outside-says _ _ (lies (no-arc (no-measured (no-estimate (no-wait (no-head (c .before .before .before))))))) (c .if7 .taken)
+returns-7 c = factors-says _ _ (lies (no-arc (no-measured (no-estimate (no-wait (no-head (c .before .before))))))) (c .if7 .taken)
 
 returns-8 : tie.Need-returns-8
-returns-8 c =
-    let job = c .before .before .before in
+returns-8 c = outside-says _ _ (lies (no-arc (no-measured (no-estimate (no-wait (no-head (no-job (c .before .before .before)))))))) (c .if8 .taken)
+
+returns-9 : tie.Need-returns-9
+returns-9 c =
+    let factors = c .before .before .before in
+    let job = no-job factors in
     let head = no-head job in
     let wait = no-wait head in
     let estimate = no-estimate wait in
     let measured = no-measured estimate in
     let arc = no-arc measured in
-    none-fits _ _ (lies arc) (c .if7 .left) (job .if6 .left) (head .if5 .left) (arc .if1 .left) (estimate .if3 .left) (measured .if2 .left)
-    (wait .if4 .left)
+    none-fits _ _ (lies arc) (c .if8 .left) (job .if6 .left) (head .if5 .left) (arc .if1 .left) (estimate .if3 .left) (measured .if2 .left)
+    (wait .if4 .left) (factors .if7 .left)
 
 pub item-of-spec : {M : Type 1} → statement M
 item-of-spec =
@@ -99,4 +107,5 @@ item-of-spec =
     job-at-requires
     returns-6
     returns-7
-    returns-8)
+    returns-8
+    returns-9)
