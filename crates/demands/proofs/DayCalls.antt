@@ -11,7 +11,7 @@ use Rattle.tally.specs.declared.Tally.{Tally}
 use Rattle.jobs.specs.declared.Day.{Day}
 use Rattle.jobs.specs.declared.Status.{Status}
 use Rattle.jobs.specs.declared.Status.the-variants.{TooLong, ShortTally, Reported}
-use Rattle.jobs.specs.Report.{DayResult, report}
+use Rattle.jobs.specs.Report.{DayResult}
 use Rattle.day.specs.Host.{statusNumber, figureCount, figuresOf}
 use Rattle.day.specs.Calls.{DayCall, reported}
 use Rattle.day.proofs.Promises.{counts-length, Promises, promises}

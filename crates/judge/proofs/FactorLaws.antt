@@ -18,22 +18,21 @@ use Rattle.model.specs.Stated.{fixedFactors, statedBy}
 use Rattle.model.proofs.Tests.{or-swap}
 use Rattle.map.specs.declared.record as declared
 use Rattle.map.specs.declared.record.Item.the-variants.{Factors}
-use Rattle.map.specs.Items.{tableAt, TableLies, startBy, endBy, LiesIn, Says}
+use Rattle.map.specs.Items.{InForce, startBy, endBy, LiesIn, Says}
 use Rattle.map.proofs.Factors.{own-table}
 use Rattle.judge.specs.Factors.{breaksAfter, RulesWalked}
 use Rattle.judge.specs.Survey.{firstTable}
 
 -- ---- The table in force
 
--- of these tables the first is in force, and its factors begin at byte `at`
-pub record InForce (input : List ℕ) (tables : List (List ℕ)) (at : ℕ) : Type 0 where
-  pub lie : TableLies input at
-  pub are : tableAt input at ≡ headD tables fixedFactors
+-- of these tables the first is in force; where there is none, the fixed one
+abbrev pub FirstInForce : List ℕ → List (List ℕ) → ℕ → Type 0
+FirstInForce input tables at = InForce input at (headD tables fixedFactors)
 
 -- one table more, which a record states
 pub table-more : {input : List ℕ} (tables : List (List ℕ)) {noted at : ℕ} {r : declared.Record.Record}
-    → InForce input tables noted → Says input r (Factors at) → LiesIn input r → 0 < r .start
-    → InForce input (tables ++ (u16s 8 input at ∷ [])) (firstTable (length tables) noted at)
+    → FirstInForce input tables noted → Says input r (Factors at) → LiesIn input r → 0 < r .start
+    → FirstInForce input (tables ++ (u16s 8 input at ∷ [])) (firstTable (length tables) noted at)
 unfolding headD startBy endBy
 table-more {input} [] {noted} {at} now says lies behind =
     record { lie = λ some. omega (arith, says .ends, lies .ends); are = own-table input at λ z. omega (arith, says .begins) }

@@ -82,7 +82,6 @@ module _ (input marks : List ℕ) (s : Survey) (factors : List ℕ) (now : Right
           places = right .places;
           few = right .few;
           arcs = right .states .arcs;
-          factors-lie = right .states .factors-lie;
           factors = right .states .factors;
           job = right .states .job (eqb-true _ _ (not-false _ (parts .0)));
           goals-end = right .states .goals-end (not-false _ (parts .1));

@@ -26,7 +26,7 @@ module _ (input marks : List ℕ) (s : Survey) (right : RightMap input marks s) 
   rs = frame input .records
 
   in-force : factors ≡ stated rs .factors
-  in-force = read ∙ right .states .factors
+  in-force = read ∙ right .states .factors .are
 
   -- 22
   factors-same : (ltb 1 (s .tables) || broken) ≡ wrongFactors (items rs)

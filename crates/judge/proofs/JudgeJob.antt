@@ -118,7 +118,6 @@ module _ (input marks : List ℕ) (s : Survey) (j : OneJob input marks s) where
             allowance = is-allowance ∙ allowance-same;
             goals-end = rw (is-count, is-at) (j .goals-end);
             goals = rw (is-count, is-at) goals-same;
-            factors-lie = rw is-table (j .factors-lie);
             factors = rw is-table (j .factors);
           } in
           record {

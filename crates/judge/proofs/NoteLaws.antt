@@ -12,7 +12,7 @@ use Rattle.judge.specs.Marks.{markOf}
 use Rattle.judge.specs.Survey.{given, fewPlaces, passed, opened, withHead, withLane, withWait, withFactors, withJob, noted, marksBy}
 use Rattle.judge.specs.Survey.{sizeOr, jobOr}
 use Rattle.judge.proofs.MarkLaws.{marked-length}
-use Rattle.judge.proofs.FactorLaws.{InForce, table-more}
+use Rattle.judge.proofs.FactorLaws.{FirstInForce, table-more}
 use Rattle.map.specs.declared.record as declared
 use Rattle.map.specs.declared.record.Item.{Item}
 use Rattle.map.specs.declared.record.Item.the-variants.{Head, Lane, Measured, Estimate, Wait, Factors, Job, Misfit, Other}
@@ -90,9 +90,9 @@ module _ (input : List ℕ) (again : Bool) (s : Survey) where
   noted-tables Other = omega arith
 
   -- the first table stays in force
-  pub noted-factors : (tables : List (List ℕ)) → s .tables ≡ length tables → InForce input tables (s .«factors_at») → (r : declared.Record.Record)
+  pub noted-factors : (tables : List (List ℕ)) → s .tables ≡ length tables → FirstInForce input tables (s .«factors_at») → (r : declared.Record.Record)
       → LiesIn input r → 0 < r .start → (i : Item) → Says input r i
-      → InForce input (tables ++ filterMap model.factorsIn (meant input i ∷ [])) (noted again s i .«factors_at»)
+      → FirstInForce input (tables ++ filterMap model.factorsIn (meant input i ∷ [])) (noted again s i .«factors_at»)
   unfolding noted withHead withLane withWait withFactors withJob meant filterMap consIf model.factorsIn
   noted-factors tables all now r lies behind (Head z) says =
       let kept : noted again s (Head z) .«factors_at» ≡ s .«factors_at» = either (λ t. t .«factors_at») (eqb (s .records) 0) _ _ _ refl refl in

@@ -17,7 +17,6 @@ use Rattle.model.proofs.Tests.{any-append, filterMap-append}
 use Rattle.judge.proofs.NumberLaws.{joined-least}
 use Rattle.judge.proofs.MarkLaws.{mark-positive, marked-member, marked-after}
 use Rattle.judge.proofs.ItemLaws.{ends-snoc, last-snoc, isOther, joined, Again, own-given, given-first}
-use Rattle.judge.proofs.FactorLaws.{InForce}
 use Rattle.judge.proofs.NoteLaws.{noted-number, noted-records, noted-lanes, noted-waits, noted-tables, noted-factors, noted-jobs}
 use Rattle.judge.proofs.NoteLaws.{noted-last, noted-job, noted-opens, noted-keeps, marks-length}
 use Rattle.map.specs.declared.record as declared
@@ -227,8 +226,7 @@ module _ (input : List ℕ) (rs : List Record) (m : List ℕ) (s : Survey) (note
       let again = againIn (s .places) m i in
       let sizes = size-more again in
       let tables = filterMap model.factorsIn (said rs) in
-      let now : InForce input tables (s .«factors_at») = record { lie = notes .factors-lie; are = notes .factors } in
-      let table = noted-factors input again s tables (notes .tables) now r lies behind i says in
+      let table = noted-factors input again s tables (notes .tables) (notes .factors) r lies behind i says in
       rw (step .survey)
       (record {
         number = rw (unknown-more, misfit-more, said-more) (noted-rows input rs m s notes i);
@@ -238,8 +236,7 @@ module _ (input : List ℕ) (rs : List Record) (m : List ℕ) (s : Survey) (note
         lanes = noted-lanes input again s i ∙ rw (notes .lanes, said-more, filterMap-append, length-append);
         waits = noted-waits input again s i ∙ rw (notes .waits, said-more, filterMap-append, length-append);
         tables = noted-tables input again s i ∙ rw (notes .tables, said-more, filterMap-append, length-append);
-        factors-lie = table .lie;
-        factors = table .are ∙ rw (said-more, filterMap-append);
+        factors = rw (said-more, filterMap-append) table;
         jobs = noted-jobs input again s i ∙ rw (notes .jobs, said-more, filterMap-append, length-append);
         job-last = noted-last input again s i ∙ rw (said-more, ends-snoc);
         job = noted-job input again s i ∙ rw (notes .job, said-more, last-snoc);

@@ -67,8 +67,7 @@ notes-start input marks clear =
       lanes = refl;
       waits = refl;
       tables = refl;
-      factors-lie = λ some. absurd (some refl);
-      factors = fixed-table input;
+      factors = record { lie = λ some. absurd (some refl); are = fixed-table input };
       jobs = refl;
       job-last = refl;
       job = refl;
@@ -193,8 +192,7 @@ module _ (input : List ℕ) (m : List ℕ) (s : Survey) where
         lanes = rw is (notes .lanes ∙ rw fits);
         waits = rw is (notes .waits ∙ rw fits);
         tables = rw is (notes .tables ∙ rw fits);
-        factors-lie = notes .factors-lie;
-        factors = rw is (notes .factors ∙ rw fits);
+        factors = rw is (rw fits at (notes .factors));
         jobs = rw is (notes .jobs ∙ rw fits);
         job-last = rw is (notes .job-last ∙ rw fits);
         job = λ one. rw is (notes .job ∙ rw fits (last-one _ _ (model.items rs) (rw fits at (sym (notes .jobs) ∙ one))));

@@ -12,7 +12,7 @@ use Rattle.judge.specs.Marks.{markOf, firstMark, marked, markedBy}
 use Rattle.map.specs.declared.record as declared
 use Rattle.map.specs.declared.record.Item.{Item}
 use Rattle.map.specs.declared.record.Item.the-variants.{Head, Lane, Measured, Estimate, Wait, Factors, Job, Misfit, Other}
-use Rattle.map.specs.Items.{jobOf, tableAt, TableLies}
+use Rattle.map.specs.Items.{jobOf, InForce}
 use Rattle.model.specs.Framing.{Record, frame}
 use Rattle.model.specs.Items as model
 use Rattle.model.specs.Limits.{maxPlaces, maxEstimate, maxLength, maxClass}
@@ -280,8 +280,7 @@ pub record Notes (input : List ℕ) (rs : List Record) (marks : List ℕ) (s : S
   pub lanes : s .lanes ≡ length (filterMap model.laneIn (said rs))
   pub waits : s .waits ≡ length (filterMap model.waitIn (said rs))
   pub tables : s .tables ≡ length (filterMap model.factorsIn (said rs))
-  pub factors-lie : TableLies input (s .«factors_at»)
-  pub factors : tableAt input (s .«factors_at») ≡ headD (filterMap model.factorsIn (said rs)) fixedFactors
+  pub factors : InForce input (s .«factors_at») (headD (filterMap model.factorsIn (said rs)) fixedFactors)
   pub jobs : s .jobs ≡ length (filterMap model.jobIn (said rs))
   pub job-last : s .«job_last» ≡ endsWithJob (said rs)
   pub job : jobOf input (s .job) ≡ lastJob noJob (said rs)
@@ -326,8 +325,7 @@ pub record Stating (input : List ℕ) (marks : List ℕ) (s : Survey) : Type 0 w
   pub lanes : s .lanes ≡ length (statedIn input .lanes)
   pub waits : s .waits ≡ length (statedIn input .waits)
   pub tables : s .tables ≡ length (filterMap model.factorsIn (model.items (frame input .records)))
-  pub factors-lie : TableLies input (s .«factors_at»)
-  pub factors : tableAt input (s .«factors_at») ≡ statedIn input .factors
+  pub factors : InForce input (s .«factors_at») (statedIn input .factors)
   pub jobs : s .jobs ≡ length (filterMap model.jobIn (model.items (frame input .records)))
   pub job-last : s .«job_last» ≡ endsWithJob (model.items (frame input .records))
   pub job : s .jobs ≡ 1 → jobOf input (s .job) ≡ statedIn input .job

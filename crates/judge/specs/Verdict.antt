@@ -8,7 +8,7 @@ use lib.ListN.{length}
 use Rattle.judge.specs.declared.survey.Survey.{Survey}
 use Rattle.judge.specs.Numbers.{noNumber, numberOr}
 use Rattle.judge.specs.Survey.{placed, MarksTell, Stating}
-use Rattle.map.specs.Items.{jobOf, tableAt, TableLies}
+use Rattle.map.specs.Items.{jobOf, InForce}
 use Rattle.model.specs.Framing.{frame}
 use Rattle.model.specs.Items.{items}
 use Rattle.model.specs.Limits.{maxPlaces, maxGoals}
@@ -51,8 +51,7 @@ pub record OneJob (input : List ℕ) (marks : List ℕ) (s : Survey) : Type 0 wh
   pub places : s .places ≡ statedIn input .size .places
   pub few : s .places ≤ maxPlaces
   pub arcs : s .arcs ≡ statedIn input .size .arcs
-  pub factors-lie : TableLies input (s .«factors_at»)
-  pub factors : tableAt input (s .«factors_at») ≡ statedIn input .factors
+  pub factors : InForce input (s .«factors_at») (statedIn input .factors)
   pub job : jobOf input (s .job) ≡ statedIn input .job
   pub goals-end : s .job .«goals_at» + 2 * s .job .goals ≡ length input
   pub estimated : MarksTell input marks (s .places)

@@ -78,6 +78,11 @@ tableAt input (suc at) = u16s 8 input (suc at)
 abbrev pub TableLies : List ℕ → ℕ → Type 0
 TableLies input at = (at ≡ 0 → ⊥) → at + model.factorsBytes ≤ length input
 
+-- the factors in force are these, and begin there
+pub record InForce (input : List ℕ) (at : ℕ) (factors : List ℕ) : Type 0 where
+  pub lie : TableLies input at
+  pub are : tableAt input at ≡ factors
+
 -- a charge that is in range and costs no more than an arc may
 pub record Priced (factors : List ℕ) (c : model.Charge) : Type 0 where
   pub measure : mismeasured c ≡ false

@@ -4,7 +4,7 @@ use mathlib.Core.List.{List}
 use Prim.Native.Nat.{ℕ, _+_, _*_}
 use lib.ListN.{length}
 use Rattle.map.specs.declared.Job.{Job}
-use Rattle.map.specs.Items.{tableAt, TableLies}
+use Rattle.map.specs.Items.{InForce}
 use Rattle.model.specs.Bytes.{u16s}
 use Rattle.model.specs.Stated.{statedIn}
 
@@ -16,5 +16,4 @@ pub record States (input : List ℕ) (j : Job) : Type 0 where
   pub allowance : j .allowance ≡ statedIn input .job .allowance
   pub goals-end : j .«goals_at» + 2 * j .goals ≡ length input
   pub goals : u16s (j .goals) input (j .«goals_at») ≡ statedIn input .job .goals
-  pub factors-lie : TableLies input (j .«factors_at»)
-  pub factors : tableAt input (j .«factors_at») ≡ statedIn input .factors
+  pub factors : InForce input (j .«factors_at») (statedIn input .factors)

@@ -88,7 +88,7 @@ module _ (input : List ℕ) (j : Job) (work output : List ℕ) (has : HasRoom in
           few = sizes passes .0;
           few-lanes = sizes passes .1;
           words = omega (arith, room);
-          factors = has .states .factors-lie;
+          factors = has .states .factors .lie;
           goals = record { ends = has .states .goals-end; few = goals };
           room = rw text (omega (arith, written-shorter input number, bytes));
         }

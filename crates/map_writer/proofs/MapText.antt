@@ -116,7 +116,7 @@ module _ (input : List ℕ) (j : Job) (w₀ w : List ℕ) (states : States input
   text-written =
       let estimates = words-text estimateKind (estimatesAt n) (goalsAt n) (s .estimates) (omega arith) (omega arith) (order .estimates) in
       let waits = words-text waitKind (waitsAt n) (endsAt n) (s .waits) (omega arith) (omega arith) (order .waits) in
-      rw (lanes-text, estimates, waits, states .factors, states .goals, states .start, states .allowance, states .places, states .arcs)
+      rw (lanes-text, estimates, waits, states .factors .are, states .goals, states .start, states .allowance, states .places, states .arcs)
 
 -- ---- Its length is a number of 32 bits
 

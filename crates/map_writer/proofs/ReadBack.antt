@@ -3,22 +3,22 @@ use mathlib.Core.Path.{_≡_, refl, sym, ap, ap₂, _∙_}
 use mathlib.Core.Bool.{Bool, true, false, cond, not}
 use mathlib.Core.List.{List, [], _∷_, _++_, map, headD, append-nil, List·Memᴰ, List·Memᴰ·head, List·Memᴰ·tail}
 use mathlib.Core.Option.{Option, none, some}
-use Prim.Native.Nat.{ℕ, zero, suc, _^_, _≤_, _<_}
-use native.Mathlib.Decide.{decLe}
+use Prim.Native.Nat.{ℕ, zero, suc, _^_, _<_}
 use native.Mathlib.Omega.{arith}
 use lib.Dec.{eqb}
-use lib.ListN.{length, getD, List·getD-eq-default}
+use lib.ListN.{length, getD}
 use borrow.Author.Tests.{eq-eqb}
 use Rattle.model.specs.Lists.{any, filterMap, consIf, sameNumbers}
 use Rattle.model.specs.Bytes.{u16, u32, u16s, put16, put32, put16s}
 use Rattle.model.specs.Framing.{Record, Framed}
 use Rattle.model.specs.Items.{Size, Charge, flat, measured, Lane, PlaceValue, Job, Item, head, lane, estimate, job, wait, ownFactors}
-use Rattle.model.specs.Items.{headOf, laneOf, measuredOf, estimateOf, jobOf, waitOf, factorsOf, itemOf, items}
+use Rattle.model.specs.Items.{headOf, laneOf, measuredOf, estimateOf, jobOf, waitOf, itemOf, items}
 use Rattle.model.specs.Items.{sizeIn, laneIn, estimateIn, jobIn, waitIn, factorsIn, factorsBytes, chargeBytes, bodyLength, otherThan, misfits}
 use Rattle.model.specs.Stated.{Stated, fixedFactors, IsTable, noJob, statedBy, stated, statedIn}
 use Rattle.model.specs.Refusals.{wrongLength}
 use Rattle.model.proofs.Bytes.{two-bytes, u16-put16, u32-put32, u16s-put16s}
 use Rattle.model.proofs.Lists.{same-numbers}
+use Rattle.model.proofs.OwnTables.{factors-read}
 use Rattle.model.proofs.Tests.{or-none}
 use Rattle.map_writer.specs.Canonical.{putStated}
 pub use Rattle.map_writer.proofs.WrittenRecords.{StorableCharge, StorableLane, StorableValue, StorableJob, Storable}
@@ -55,16 +55,9 @@ wait-read : (w : PlaceValue) → StorableValue 65536 w → itemOf (waitRecord w)
 unfolding waitRecord itemOf waitOf u16 put16
 wait-read w ok = rw (two-bytes (w .place) (ok .place), two-bytes (w .value) (ok .value))
 
-factor-below : (fs : List ℕ) → IsTable fs → (i : ℕ) → getD fs i 0 < 65536
-factor-below fs table i = go (decLe 8 i)
-  where
-    go : Dec (8 ≤ i) → getD fs i 0 < 65536
-    go (yes beyond) = omega (arith, List·getD-eq-default fs 0 {n = i} (omega (arith, table .eight)))
-    go (no within) = omega (arith, table .below i (omega arith))
-
 table-read : (fs : List ℕ) → IsTable fs → itemOf (factorsRecord fs) ≡ ownFactors fs
-unfolding factorsRecord itemOf factorsOf
-table-read fs table = ap ownFactors (rw (append-nil, table .eight) at (u16s-put16s [] fs [] (factor-below fs table)))
+unfolding factorsRecord itemOf
+table-read fs table = ap ownFactors (factors-read fs table)
 
 members-below : (gs : List ℕ) → ((g : ℕ) → List·Memᴰ g gs → g < 65536) → (i : ℕ) → getD gs i 0 < 65536
 members-below [] h i = omega arith

@@ -5,6 +5,7 @@ use mathlib.Core.List.{List, [], _∷_, _++_}
 use Prim.Native.Nat.{ℕ, suc}
 use native.Mathlib.Omega.{arith}
 use lib.ListN.{replicate}
+use Rattle.model.specs.Lists.{sameNumbers}
 use Rattle.model.specs.Bytes.{put16s}
 use Rattle.model.specs.Jobs.{putJob}
 use Rattle.model.specs.Stated.{statedIn, problemOf}
@@ -13,7 +14,7 @@ use Rattle.model.specs.Answer.{route}
 use Rattle.model.specs.Allowances.{Around, inputWith}
 use Rattle.model.specs.Terms.{isEnded, someEnded, endsBetween}
 use Rattle.model.proofs.Compute.{compute}
-use Rattle.model.proofs.Runs.{mapA, same}
+use Rattle.model.proofs.Runs.{mapA}
 
 -- map A and its job from 0 to 3, but for the allowance
 around : Around
@@ -26,11 +27,11 @@ is-map-a = refl
 
 -- number, floor, expansions and queries with this allowance and those that follow
 rowsFrom : ℕ → List (List ℕ) → Bool
-unfolding inputWith same
+unfolding inputWith sameNumbers
 rowsFrom allowance [] = true
 rowsFrom allowance (r ∷ rs) =
     let a = route (inputWith around allowance) (replicate 72 7) (replicate 18 9) .answer in
-    same (a .number ∷ a .floor ∷ a .expansions ∷ a .queries ∷ []) r && rowsFrom (suc allowance) rs
+    sameNumbers (a .number ∷ a .floor ∷ a .expansions ∷ a .queries ∷ []) r && rowsFrom (suc allowance) rs
 
 -- the floor rises with the queries that end, the first and the ninth
 each-allowance : rowsFrom 0 (
@@ -53,7 +54,7 @@ each-allowance : rowsFrom 0 (
     ∷ (0 ∷ 0 ∷ 16 ∷ 10 ∷ [])
     ∷ (0 ∷ 0 ∷ 16 ∷ 10 ∷ [])
     ∷ []) ≡ true
-unfolding compute around mapA inputWith same rowsFrom
+unfolding compute around mapA inputWith rowsFrom
 each-allowance = refl
 
 ended : ℕ → ℕ → Bool

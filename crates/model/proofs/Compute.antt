@@ -1,6 +1,6 @@
 -- `unfolding compute` opens all that `route`, `readSheet` and `hostAnswer` rest on, for theorems that are proved by computing them.
 use mathlib.Core.List.{headD, getLastD}
-use Rattle.model.specs.Lists.{any, filter, isGiven, consIf, filterMap, lesser, leastBy, member, repeats, rises, falls}
+use Rattle.model.specs.Lists.{any, filter, isGiven, consIf, filterMap, lesser, leastBy, member, repeats, rises, falls, sameNumbers}
 use Rattle.model.specs.Bytes.{u16, u32, u16s, put16, put32, put16s}
 use Rattle.model.specs.Framing.{stop, push, frameUpTo, frame, putRecord}
 use Rattle.model.specs.Items.{
@@ -117,14 +117,14 @@ use Rattle.model.specs.Sheets.{
   readSheet,
   hostAnswer,
 }
-use Rattle.model.specs.Jobs.{putHead, putArc, putMeasured, putEstimate, putWait, putFactors, putJob, shares, putChain, routeJob, noRouteJob}
+use Rattle.model.specs.Jobs.{putHead, putArc, putMeasured, putEstimate, putWait, putFactors, putTable, putJob, shares, putChain, routeJob, noRouteJob}
 use Rattle.model.specs.Endings.{finished, endingIf, budgetedBy}
 use Rattle.model.specs.Answer.{sheetOf, answerOf, overFront, refusedWith, endedWith, callIf, call}
 
 unfoldable pub compute : Unit {0}
 unfolding
     headD getLastD
-    any filter isGiven consIf filterMap lesser leastBy member repeats rises falls
+    any filter isGiven consIf filterMap lesser leastBy member repeats rises falls sameNumbers
     u16 u32 u16s put16 put32 put16s
     stop push frameUpTo frame putRecord
     headOf laneOf measuredOf estimateOf jobOf waitOf factorsOf itemOf chargeBytes bodyLength otherThan misfits items
@@ -138,6 +138,6 @@ unfolding
     firstRound limitOf closeIf settle after ask next goOn traceUpTo trace total begun search
     parentBy parent extend routeUpTo routeTo tightBy leastPaths routeToFirst firstRoute
     routeSheet noRouteSheet reading refusedRead impossible checked fitsRoute fitsNoRoute readRecord readFramed readSheet hostAnswer
-    putHead putArc putMeasured putEstimate putWait putFactors putJob shares putChain routeJob noRouteJob
+    putHead putArc putMeasured putEstimate putWait putFactors putTable putJob shares putChain routeJob noRouteJob
     finished endingIf budgetedBy sheetOf answerOf overFront refusedWith endedWith callIf call
 compute = tt

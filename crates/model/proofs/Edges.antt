@@ -14,7 +14,7 @@ use Rattle.model.specs.Refusals.{wrongSize, refusal}
 use Rattle.model.specs.Jobs.{putHead, putArc, putMeasured, putEstimate, putWait, putFactors, putJob}
 use Rattle.model.specs.Sheets.{readSheet, hostAnswer}
 use Rattle.model.proofs.Compute.{compute}
-use Rattle.model.proofs.Runs.{Case, same, seven, over, agrees, agree, case, sheet9}
+use Rattle.model.proofs.Runs.{Case, seven, over, agrees, agree, case, sheet9}
 
 -- A job whose start is its goal ends at once, with the route 0 at cost 0: what passes below comes to this.
 here : List ℕ
@@ -214,7 +214,7 @@ roomEdges =
     ∷ []
 
 edges-agree : agree (mapEdges ++ waitEdges ++ factorEdges ++ jobEdges ++ roomEdges) ≡ true
-unfolding compute same seven over agrees agree case here sheet0 arrived passes refused one two mapEdges waitEdges ones endingIn factorEdges jobEdges
+unfolding compute seven over agrees agree case here sheet0 arrived passes refused one two mapEdges waitEdges ones endingIn factorEdges jobEdges
     lent roomEdges
 edges-agree = refl
 

@@ -1,15 +1,15 @@
 -- Every table that passes is taken: there is an input that is accepted with it. Assumes nothing.
-use mathlib.Core.Path.{_≡_, refl}
+use mathlib.Core.Path.{_≡_}
 use mathlib.Core.Bool.{false}
-use mathlib.Core.List.{List, [], _∷_, _++_, headD, List·Memᴰ, List·Memᴰ·head, List·Memᴰ·tail, List·Memᴰ·not-nil, append-nil}
+use mathlib.Core.List.{List, [], _∷_, _++_, headD, List·Memᴰ·head, List·Memᴰ·tail, List·Memᴰ·not-nil, append-nil}
 use Prim.Native.Nat.{ℕ, _<_}
 use native.Mathlib.Decide.{decLt}
 use native.Mathlib.Omega.{arith}
-use lib.ListN.{length, getD, List·getD-eq-default}
+use lib.ListN.{getD, List·getD-eq-default}
 use Rattle.model.specs.Lists.{any, isGiven, consIf, filterMap, repeats, rises}
 use Rattle.model.specs.Bytes.{u16, u32, u16s, put16, put32, put16s}
 use Rattle.model.specs.Framing.{Record, frame}
-use Rattle.model.specs.Items.{headKind, jobKind, factorsKind, Item, head, job, ownFactors, headOf, jobOf, factorsOf, itemOf, items}
+use Rattle.model.specs.Items.{headKind, jobKind, factorsKind, head, job, ownFactors, headOf, jobOf, factorsOf, itemOf, items}
 use Rattle.model.specs.Items.{bodyLength, otherThan, misfits, sizeIn, laneIn, estimateIn, jobIn, waitIn, factorsIn}
 use Rattle.model.specs.Stated.{IsTable, statedBy, stated, lookup}
 use Rattle.model.specs.Refusals.{unknownKind, wrongLength, beginsWithHead, wrongHead, wrongSize, outsideMap, freeArc, largeEstimate, twoEstimates}
@@ -17,7 +17,7 @@ use Rattle.model.specs.Refusals.{wrongMeasure, wrongFactors, wrongWait, 
 use Rattle.model.specs.Refusals.{shortWork, shortSheet, formRows, sizeRows, mapRows, factorRows, costRows, jobRows, inputRows, roomRows, rows}
 use Rattle.model.specs.Refusals.{firstThatHolds, refusal, Accepted}
 use Rattle.model.proofs.Bytes.{put16s-length, u16s-put16s, append-bytes, put16-is-bytes, put32-is-bytes, put16s-is-bytes}
-use Rattle.model.proofs.Records.{putRecords, AllFit, Fits, frame-records}
+use Rattle.model.proofs.Records.{putRecords, AllFit, frame-records}
 use Rattle.model.proofs.Charges.{table-passes}
 
 -- one place, the table, and a job from the place to itself
@@ -29,16 +29,17 @@ tableRecords fs =
     ∷ []
 
 module _ (fs : List ℕ) (table : IsTable fs) where
-  small : (i : ℕ) → getD fs i 0 < 65536
-  small i = go (decLt i 8)
+  factor-below : (i : ℕ) → getD fs i 0 < 65536
+  factor-below i = go (decLt i 8)
     where
       go : Dec (i < 8) → getD fs i 0 < 65536
       go (yes h) = omega (arith, table .below i (omega arith))
       go (no h) = rw (List·getD-eq-default fs 0 {n = i} (omega (arith, table .eight))) (omega arith)
 
-  factors-read : factorsOf (put16s fs) ≡ fs
+  -- its factors are read back
+  pub factors-read : factorsOf (put16s fs) ≡ fs
   unfolding factorsOf
-  factors-read = rw (append-nil (put16s fs), table .eight) at (u16s-put16s [] fs [] small)
+  factors-read = rw (append-nil (put16s fs), table .eight) at (u16s-put16s [] fs [] factor-below)
 
   pub tables-fit : AllFit (tableRecords fs)
   unfolding tableRecords put16 put32 put16s

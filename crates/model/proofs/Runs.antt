@@ -2,12 +2,12 @@
 -- several goals, one over lanes of all classes, some where the fewest places decide, some with waits, and some with factors
 -- of their own.
 use mathlib.Core.Path.{_≡_, refl}
-use mathlib.Core.Bool.{Bool, true, false, _&&_}
+use mathlib.Core.Bool.{Bool, true, _&&_}
 use mathlib.Core.List.{List, [], _∷_, _++_}
 use mathlib.Core.Option.{none}
 use Prim.Native.Nat.{ℕ, _-_}
-use lib.Dec.{eqb}
 use lib.ListN.{length, replicate}
+use Rattle.model.specs.Lists.{sameNumbers}
 use Rattle.model.specs.Bytes.{put16, put32, put16s}
 use Rattle.model.specs.Framing.{putRecord}
 use Rattle.model.specs.Jobs.{putHead, putArc, putMeasured, putEstimate, putWait, putFactors, putJob}
@@ -68,12 +68,6 @@ pub record Case : Type 0 where
   pub zeros : ℕ
   pub sheet : List ℕ
 
-unfoldable pub same : List ℕ → List ℕ → Bool
-same [] [] = true
-same [] (y ∷ ys) = false
-same (x ∷ xs) [] = false
-same (x ∷ xs) (y ∷ ys) = eqb x y && same xs ys
-
 unfoldable pub seven : Answer → List ℕ
 seven a = a .number ∷ a .cost ∷ a .limit ∷ a .floor ∷ a .expansions ∷ a .queries ∷ a .sheet-bytes ∷ []
 
@@ -85,9 +79,9 @@ over new x size = new ++ replicate (size - length new) x
 unfoldable pub agrees : Case → Bool
 agrees r =
     let w = route (r .input) (replicate (r .words) 7) (replicate (r .bytes) 9) in
-    same (seven (w .answer)) (r .numbers)
-    && same (w .work) (over (replicate (r .zeros) 0) 7 (r .words))
-    && same (w .sheet) (over (r .sheet) 9 (r .bytes))
+    sameNumbers (seven (w .answer)) (r .numbers)
+    && sameNumbers (w .work) (over (replicate (r .zeros) 0) 7 (r .words))
+    && sameNumbers (w .sheet) (over (r .sheet) 9 (r .bytes))
 
 unfoldable pub agree : List Case → Bool
 agree [] = true
@@ -147,7 +141,7 @@ runs-agree : agree runs ≡ true
 unfolding
     compute
     mapA pair square hexagon
-    same seven over agrees agree case numbers
+    seven over agrees agree case numbers
     sheetA sheet5 sheet6 noRouteFrom0 sheet9 sheet10 runs
 runs-agree = refl
 
@@ -166,7 +160,7 @@ goalRuns =
     ∷ []
 
 goal-runs-agree : agree goalRuns ≡ true
-unfolding compute star detour same seven over agrees agree case numbers toPlace2 toPlace3 goalRuns
+unfolding compute star detour seven over agrees agree case numbers toPlace2 toPlace3 goalRuns
 goal-runs-agree = refl
 
 -- Document 02, paper 1: a lane of each class, each at cost 48, beside ways that cost one more.
@@ -184,7 +178,7 @@ overAll = putRecord 17 (put32 384 ++ put16 9 ++ put16s (0 ∷ 1 ∷ 2 ∷ 3 ∷ 
 
 -- its numbers are those of tests/reference.py
 class-run-agrees : agrees (case (classes ++ putJob 0 2124 (8 ∷ [])) (numbers 0 384 764 0 64 22 28) 170 overAll) ≡ true
-unfolding compute classes same seven over agrees case numbers overAll
+unfolding compute classes seven over agrees case numbers overAll
 class-run-agrees = refl
 
 -- Document 02, paper 2: the sheet of a route of this cost along these places
@@ -225,7 +219,7 @@ fewestRuns =
     ∷ []
 
 fewest-runs-agree : agree fewestRuns ≡ true
-unfolding compute nineOrFour nearerGoal equalCounts hiddenWay same seven over agrees agree case numbers routeSheetOf fewestRuns
+unfolding compute nineOrFour nearerGoal equalCounts hiddenWay seven over agrees agree case numbers routeSheetOf fewestRuns
 fewest-runs-agree = refl
 
 -- Document 02, paper 5: by way of 1 at cost 4 + 2 + 5 + 2, of 2 at 4 + 3 + 3; without the waits at 4 and 6. The start waits, and so does the goal,
@@ -254,7 +248,7 @@ waitRuns =
     ∷ []
 
 wait-runs-agree : agree waitRuns ≡ true
-unfolding compute doors dearLane dearMeasure same seven over agrees agree case numbers routeSheetOf sheet6 waitRuns
+unfolding compute doors dearLane dearMeasure seven over agrees agree case numbers routeSheetOf sheet6 waitRuns
 wait-runs-agree = refl
 
 -- Document 02, paper 7: by way of 1 two lanes of 4 feet in class 0, by way of 2 one of 1 foot in class 3 and one of 2 in class 7. By the fixed factors
@@ -283,5 +277,5 @@ factorRuns =
     ∷ []
 
 factor-runs-agree : agree factorRuns ≡ true
-unfolding compute twoFloors allOnes all16 same seven over agrees agree case numbers routeSheetOf factorRuns
+unfolding compute twoFloors allOnes all16 seven over agrees agree case numbers routeSheetOf factorRuns
 factor-runs-agree = refl

@@ -28,7 +28,7 @@ place-records-requires : tie.Need-place-records-requires
 place-records-requires c κs =
     let p = c .before .before .before .before .before in
     let known = facts (start p) in
-    let said = c .before .before .factors .ensures ∙ known .states .factors in
+    let said = c .before .before .factors .ensures ∙ known .states .factors .are in
     can-place _ _ _ known _ (p .prepare .kept .1 .1 .0) (p .prepare .ensures) said
 
 sort-rows-requires : tie.Need-sort-rows-requires
