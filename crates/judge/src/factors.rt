@@ -4,7 +4,8 @@ ghost use mathlib.Core.Path.{_≡_};
 ghost use lib.ListN.{length};
 ghost use Rattle.model.specs.Refusals.{breaksRules};
 
-// A factor is out of range, or smaller than the one before.
+// A factor is out of range, or smaller than the one before. That there are eight is asked for, since the proof of a function is not told how long an array
+// is that it is lent.
 pub fn break_rules(factors: &[u32; Map::CLASS + 1]) -> bool
     requires { ⌜ length (now factors) ≡ 8 ⌝ }
     ensures { λ r. ⌜ r ≡ breaksRules (now (factors .entry)) ⌝ }

@@ -75,6 +75,7 @@ unfoldable pub tableAt : List ℕ → ℕ → List ℕ
 tableAt input zero = fixedFactors
 tableAt input (suc at) = u16s 8 input (suc at)
 
+-- and they lie in the input
 abbrev pub TableLies : List ℕ → ℕ → Type 0
 TableLies input at = (at ≡ 0 → ⊥) → at + model.factorsBytes ≤ length input
 

@@ -167,6 +167,7 @@ fn put_by_place(out: &mut [u8], start: usize, kind: u16, words: &[u32]) -> usize
     at
 }
 
+// As of `judge::factors::break_rules`, the lengths are asked for.
 fn same_factors(a: &[u32; Map::CLASS + 1], b: &[u32; Map::CLASS + 1]) -> bool
     requires { ⌜ (length (now a) ≡ 8) × (length (now b) ≡ 8) ⌝ }
     ensures { λ r. ⌜ r ≡ sameNumbers (now (a .entry)) (now (b .entry)) ⌝ }

@@ -27,13 +27,13 @@ unfolding
     shortOutput outputRows writeRows writeRefusal writtenWith writeIf writeMap decimalUpTo decimal parted line streamsOf answered printed
 two-lanes = refl
 
--- a table behind the job's lanes, and two lanes of one class that it puts the other way round
-table-first : printed (putHead 2 2 ++ putMeasured 0 1 3 2 ++ putFactors (1 ∷ 1 ∷ 1 ∷ 1 ∷ 1 ∷ 1 ∷ 1 ∷ 1 ∷ []) ++ putMeasured 0 1 4 0 ++ putJob 1 944 (0 ∷ []))
+-- a table between two lanes, which are in order by it and not by the fixed one: it goes behind them
+by-table : printed (putHead 2 2 ++ putMeasured 0 1 3 2 ++ putFactors (1 ∷ 1 ∷ 1 ∷ 1 ∷ 1 ∷ 1 ∷ 1 ∷ 1 ∷ []) ++ putMeasured 0 1 4 0 ++ putJob 1 944 (0 ∷ []))
     ≡ streams (putHead 2 2 ++ putMeasured 0 1 3 2 ++ putMeasured 0 1 4 0 ++ putFactors (1 ∷ 1 ∷ 1 ∷ 1 ∷ 1 ∷ 1 ∷ 1 ∷ 1 ∷ []) ++ putJob 1 944 (0 ∷ [])) []
 unfolding
     compute flatMap below insert sortBy kindFields orderFields noGreater noLater byPlace nonzeroByPlace canonical sameNumbers putTable putCharged putLane putStated
     write shortOutput outputRows writeRows writeRefusal writtenWith writeIf writeMap decimalUpTo decimal parted line streamsOf answered printed
-table-first = refl
+by-table = refl
 
 long : printed (replicate 65537 0) ≡ streams [] tooLong
 unfolding printed
