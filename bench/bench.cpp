@@ -49,6 +49,7 @@ void print_row(const Map &m, const Pair<Routing> &whole, const Pair<Routing> &re
 {
     Map no_estimates = m;
     no_estimates.estimate.assign(m.places, plain::none); // A* on it is Dijkstra's search
+    no_estimates.default_at = plain::none;
     size_t estimates = m.places - std::count(m.estimate.begin(), m.estimate.end(), plain::none);
     std::printf("%-8s %6u %6zu %6zu", m.name, m.places, m.arcs.size(), estimates);
     std::printf(" | %7.1f %7.1f %5.2f", whole.exported() * 1e6, whole.by_hand() * 1e6, whole.ratio());

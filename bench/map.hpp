@@ -1,5 +1,6 @@
 // A map with its job, and the input that it is written as.
 #pragma once
+#include <algorithm>
 #include <cstdint>
 #include <vector>
 
@@ -26,8 +27,13 @@ struct Map {
     std::vector<uint32_t> goals, estimate, wait; // an estimate or a wait of none: the place has no record
     std::vector<Arc> arcs;
     plain::Factors factors = plain::fixed_factors;
-    size_t factors_at = plain::none; // their record stands behind so many arcs; none: it has no record
+    uint32_t default_estimate = 0;
+    size_t factors_at = plain::none, default_at = plain::none; // their records stand behind so many arcs; none: there is no record
 
+    bool is_goal(uint32_t v) const { return std::binary_search(goals.begin(), goals.end(), v); }
+    // which holds where a place has no record
+    uint32_t estimate_without(uint32_t v) const { return is_goal(v) ? 0 : default_estimate; }
+    uint32_t estimate_at(uint32_t v) const { return estimate[v] == plain::none ? estimate_without(v) : estimate[v]; }
     uint32_t wait_at(uint32_t v) const { return wait[v] == plain::none ? 0 : wait[v]; }
     // of the lane, with the wait of the place that it leaves
     uint32_t cost(const Arc &a) const { return a.cost + wait_at(a.from); }
@@ -77,7 +83,22 @@ inline void put_factors(std::vector<uint8_t> &out, const plain::Factors &factors
         put(out, factor, 2);
 }
 
-// the waits by place, evenly among the arcs, and the factors at their place
+inline void put_default(std::vector<uint8_t> &out, uint32_t estimate)
+{
+    put_front(out, 4, 8);
+    put(out, estimate, 4);
+}
+
+// what a map has once at most and stands behind so many arcs
+inline void put_once(std::vector<uint8_t> &out, const Map &m, size_t arcs)
+{
+    if (m.factors_at == arcs)
+        put_factors(out, m.factors);
+    if (m.default_at == arcs)
+        put_default(out, m.default_estimate);
+}
+
+// the waits by place, evenly among the arcs, and the factors and the default at their place
 inline void put_arcs_and_waits(std::vector<uint8_t> &out, const Map &m)
 {
     size_t next = 0;
@@ -85,13 +106,11 @@ inline void put_arcs_and_waits(std::vector<uint8_t> &out, const Map &m)
         if (m.wait[v] != plain::none)
             put_wait(out, v, m.wait[v]);
         for (; next < m.arcs.size() * (v + 1) / m.places; next++) {
-            if (next == m.factors_at)
-                put_factors(out, m.factors);
+            put_once(out, m, next);
             put_arc(out, m.arcs[next], m.factors);
         }
     }
-    if (m.factors_at == m.arcs.size())
-        put_factors(out, m.factors);
+    put_once(out, m, m.arcs.size());
 }
 
 inline std::vector<uint8_t> input_of(const Map &m)

@@ -113,6 +113,20 @@ inline Map factored(Map m)
     return m;
 }
 
+// the same with estimates for places that are less than half as far from the goal as the start is, and a default for all others
+inline Map ringed(Map m)
+{
+    m.name = "ring";
+    std::vector<uint32_t> least = costs_to_goal(m);
+    uint32_t ring = least[m.start] / 2;
+    for (uint32_t v = 0; v < m.places; v++)
+        m.estimate[v] = least[v] < ring ? 0 : none;
+    set_estimates(m);
+    m.default_estimate = ring * 95 / 100;
+    m.default_at = m.arcs.size() / 2;
+    return m;
+}
+
 // the same with a wait at about one place in eight, and estimates that go by it
 inline Map doored(Map m)
 {
@@ -224,7 +238,7 @@ inline std::vector<Map> all()
     return {
         grid(16, false, 60), grid(23, false, 60), grid(32, false, 60), grid(45, false, 60), grid(64, false, 60),
         grid(64, false, 0), grid(64, false, 95), grid(64, true, 0), grid(64, true, 60), grid(64, true, 95),
-        classed(grid(64, false, 60)), factored(classed(grid(64, false, 60))), doored(grid(64, false, 60)),
+        classed(grid(64, false, 60)), factored(classed(grid(64, false, 60))), doored(grid(64, false, 60)), ringed(grid(64, false, 0)),
         random(4096, 0), random(4096, 60), random(4096, 100), random(2000, 95), // the third has all arcs and estimates that a map can have
         star(4096), star(300), hubs(), chain(), martelli(16), mero(1000), far_goal(16),
     };

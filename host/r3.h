@@ -41,7 +41,8 @@ uint32_t r3_route(const uint8_t *input, size_t length, uint32_t *work, size_t wo
                   uint32_t *answer, size_t room);
 
 /* libmap_writer.a: writes the map and the job of an input anew: the head, the arcs by from, to, cost, kind and what else they say,
- * the estimates other than 0 by place, the waits other than 0 by place, the factors where they are not the fixed ones, then the job.
+ * the estimates other than the default by place and none for goals, the waits other than 0 by place, the factors where they are not the
+ * fixed ones, the default where it is not 0, then the job.
  * Inputs that say the same are written alike. The input is read; work and output are lent to the call; the answer's seven numbers are:
  * number, five zeros, bytes written. The number comes back.
  * 0: the map is at the front of the output area

@@ -108,7 +108,7 @@ class Test {
         return nullptr;
     }
 
-    uint32_t first_floor() const { return map_.estimate[map_.start] == plain::none ? 0 : map_.estimate[map_.start]; }
+    uint32_t first_floor() const { return map_.estimate_at(map_.start); }
 
     // allowances that rise, on the map with up to three damages and sometimes with too little lent
     const char *wrong_damaged()

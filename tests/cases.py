@@ -8,8 +8,10 @@ crates/cases/stdout has the number of cases in each group.
 
 A case is 12 numbers of 4 bytes, little-endian: its group, bytes of the input, words lent, bytes lent, the seven numbers of the answer, and how many
 work words are 0 after the call; then the input; then the sheet. The answers are those of tests/reference.py. They must be what document 01 says of
-its own runs, and what was found by hand for some maps with waits or with factors; number and cost must be what the Boost Graph Library says of random
-maps; and where the number of places decides between cheapest routes, the route must be the first of all that there are. Otherwise nothing is made."""
+its own runs, and what was found by hand for some maps with waits, with factors or with a default; number and cost must be what the Boost Graph
+Library says of random maps; and where the number of places decides between cheapest routes, the route must be the first of all that there are.
+Otherwise nothing is made."""
+import itertools
 import os
 import random
 import struct
@@ -20,8 +22,9 @@ from by_hand import lines, runs
 from doors import doors
 from edges import ends_of_fields, ends_of_records, refused
 from floors import floors
-from inputs import Graph, any_estimates, as_measured, classes, damaged, records_before_job, some_graph, some_map
-from reference import ARCS, COST, ESTIMATE, GOALS, PLACES, Problem, arc, cleared, estimate, factors, head, job, route, u16, wait
+from inputs import Graph, any_estimates, as_measured, classes, damaged, records_before_job, some_graph, some_map, with_default
+from reference import ARCS, COST, ESTIMATE, GOALS, PLACES, Problem, arc, cleared, default, estimate, factors, head, job, route, u16, wait
+from rings import rings
 from ties import along_a_line, ties
 
 DOCUMENT, REFUSALS, ENDS, CONSISTENT, GAPS, OVERSTATING, DAMAGED, FEWEST = range(8)
@@ -68,7 +71,7 @@ def largest(graph, far):
     arcs = b''.join(as_measured(u, v, lane, classes(lane, graph.own)[-1], graph.own) for u, v, lane in graph.arcs)
     waits = b''.join(wait(*w) for w in graph.waits.items())
     estimates = b''.join(estimate(v, (d or 0) * 6 // 10) for v, d in enumerate(far))
-    data = head(PLACES, ARCS) + arcs + waits + estimates + factors(graph.own) + job(20, 236 * PLACES, graph.goals)
+    data = head(PLACES, ARCS) + arcs + waits + estimates + factors(graph.own) + default(ESTIMATE) + job(20, 236 * PLACES, graph.goals)
     agree(data, far[20], False)
     chain = b''.join(arc(v, v + 1, COST - v % 5) + wait(v, v % 5) for v in range(PLACES - 1)) + estimate(PLACES - 2, ESTIMATE)
     return data, head(PLACES, ARCS + 1) + arcs + arc(0, 0, 1) + job(0, 9, [1]), head(PLACES, PLACES - 1) + chain + job(0, 236 * PLACES, [PLACES - 1])
@@ -111,8 +114,8 @@ def group_of(graph, estimates, far):
 
 def some_case(rnd, graph, far):
     """a random map, most often with a route, and with an allowance around what its search needs, or far from it"""
-    estimates = some_estimates(rnd, graph, far)
-    group, records = group_of(graph, estimates, far), b''.join(records_before_job(rnd, graph, estimates))
+    estimates, value = with_default(rnd, graph, some_estimates(rnd, graph, far), far)
+    group, records = group_of(graph, estimates, far), b''.join(records_before_job(rnd, graph, estimates, value))
     start = rnd.choice([v for v in range(graph.places) if far[v] or rnd.random() < 0.3] or [0])
     enough = 236 * graph.places
     total = agree(records + job(start, enough, graph.goals), far[start], group == OVERSTATING)[4]
@@ -169,6 +172,17 @@ def factored(graphs):
         yield case(CONSISTENT, one.data, *needs(one.data))
 
 
+def ringed(graphs):
+    """the maps with a default by hand, each with its graph by Boost"""
+    for ring, (graph, far) in zip(rings(), graphs, strict=True):
+        given, group = route(ring.data, *needs(ring.data)), group_of(graph, ring.estimates, far)
+        if lines(*given) != (ring.line, ring.places) or route(ring.spelled, *needs(ring.spelled)) != given:
+            sys.exit(f'not as by hand, or not as with estimates for all places: {ring}, {given}')
+        if given[0][0] != 16:
+            agree(ring.data, far[0], group == OVERSTATING)
+        yield case(group, ring.data, *needs(ring.data))
+
+
 def counted(rnd, count):
     """the maps by hand, and so many random ones whose first route would be another if places were not counted"""
     for tie in ties():
@@ -179,7 +193,8 @@ def counted(rnd, count):
         graph, far = along_a_line(rnd, rnd.randint(8, 20))
         high = rnd.choice([0, 0, 0.1])  # how many estimates keep routes out of the limit
         estimates = [9 * d if rnd.random() < high else h for h, d in zip(some_estimates(rnd, graph, far), far)]
-        data = b''.join(records_before_job(rnd, graph, estimates)) + job(far.index(max(far)), 236 * graph.places, graph.goals)
+        before = records_before_job(rnd, graph, *with_default(rnd, graph, estimates, far))
+        data = b''.join(before) + job(far.index(max(far)), 236 * graph.places, graph.goals)
         if route(data, *needs(data))[0][0] == 0:
             first, uncounted = first_routes(data)
             if first != uncounted:
@@ -190,15 +205,17 @@ def counted(rnd, count):
 def all_cases(program):
     rnd = random.Random(1)
     sizes = [200] * 4 + [rnd.randint(2, rnd.randint(2, 60)) for _ in range(496)]
-    waits, tables = [door.graph for door in doors()], [one.graph for one in floors()]
-    whole, *graphs = least(program, [whole_graph(rnd), *waits, *tables, *(some_graph(rnd, places) for places in sizes)])
-    by_hand = len(waits) + len(tables)
+    by_hand = [[one.graph for one in maps] for maps in (doors(), floors(), rings())]
+    whole, *graphs = least(program, [whole_graph(rnd), *itertools.chain(*by_hand), *(some_graph(rnd, places) for places in sizes)])
+    graphs = iter(graphs)
+    waits, tables, defaults = ([*itertools.islice(graphs, len(maps))] for maps in by_hand)
     yield from documented()
     yield from refusals()
     yield from (case(ENDS, data, *needs(data)) for data in (*ends_of_fields(), *ends_of_records(), *largest(*whole)))
-    yield from waited(rnd, graphs[:len(waits)])
-    yield from factored(graphs[len(waits):by_hand])
-    yield from (some_case(rnd, *graph) for graph in graphs[by_hand:])
+    yield from waited(rnd, waits)
+    yield from factored(tables)
+    yield from ringed(defaults)
+    yield from (some_case(rnd, *graph) for graph in graphs)
     yield from (some_damage(rnd) for _ in range(80))
     yield from counted(rnd, 100)
 

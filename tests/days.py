@@ -1,8 +1,8 @@
 """Days for the tests of program `report`: some by hand with what is printed of them, and random ones, good and damaged."""
 from floors import ONES, SIXTEENS
-from inputs import any_estimates, damaged, records_before_job, some_graph
+from inputs import any_estimates, damaged, records_before_job, some_graph, with_default
 from listing import records
-from reference import COST, FACTORS, arc, factors, head, job, measured, record, route
+from reference import COST, ESTIMATE, FACTORS, arc, default, estimate, factors, head, job, measured, record, route
 
 # jobs of every kind: routes to two goals, one at cost 0, two to a goal that is not named first; no route; the allowance spent; refused by 13, 12, 11 and 3;
 # records that are no jobs, and a broken tail
@@ -66,8 +66,8 @@ def by_hand():
     yield small + arc(0, 1, 0) + 3 * goal, '5 3\n0 0 0\n'
     yield small + 1000 * goal, '0 1000\n3000 3 2000\n1 1000 3000\n'
     yield small + 999 * goal + b'\0', '0 999\n1 1\n2997 3 1998\n1 999 2997\n'
-    yield small + 999 * goal + record(8, b''), '0 999\n10 1\n2997 3 1998\n1 999 2997\n'
-    for last in (goal, record(8, b''), b'\0'):
+    yield small + 999 * goal + record(9, b''), '0 999\n10 1\n2997 3 1998\n1 999 2997\n'
+    for last in (goal, record(9, b''), b'\0'):
         yield small + 1000 * goal + last, 'too long\n'
     yield small + record(0, bytes(65536 - len(small) - 4 - len(goal))) + goal, '2 1\n0 0 0\n'
     yield small + record(0, bytes(65536 - len(small) - 3 - len(goal))) + goal, 'too long\n'
@@ -83,6 +83,19 @@ def by_hand():
     yield head(2, 1) + lane + goal + factors(ONES) + goal + factors((0, *ONES[1:])) + goal, '0 3\n10 2\n108 36 6\n1 3 108\n'
     for tables in ([ONES] * 2, [(*ONES[1:], 17)], [(2, *ONES[1:])]):
         yield head(2, 1) + lane + b''.join(map(factors, tables)) + 3 * goal + b'\0', '1 1\n22 3\n0 0 0\n'
+    yield from with_defaults()
+
+
+def with_defaults():
+    """a default before the lanes and behind them: place 1 has it, which hides the cheap way, but not where it is a goal itself; then the same with
+    places that have their own; behind a job it is no part of the map; and some that are refused"""
+    lanes, jobs = arc(0, 1, 1) + arc(1, 2, 1) + arc(0, 2, 5), job(0, 708, [2]) + job(0, 708, [1]) + job(0, 708, [1, 2]) + job(0, 0, [2])
+    for middle in (default(20) + lanes + estimate(0, 0), lanes + estimate(0, 0) + default(20)):
+        yield head(3, 3) + middle + jobs, '0 3\n16 1\n7 5 6\n1 2 2\n2 1 5\n'
+    yield head(3, 3) + lanes + estimate(1, 1) + default(20) + jobs, '0 1\n13 2\n16 1\n2 2 8\n2 1 2\n'
+    yield head(3, 3) + lanes + jobs + default(20) + jobs, '0 6\n10 1\n16 2\n8 2 18\n1 4 4\n2 2 4\n'
+    for values, number in (([5, 5], 9), ([0, 0], 9), ([ESTIMATE + 1], 8), ([ESTIMATE + 1, 5], 8)):
+        yield head(3, 3) + lanes + b''.join(map(default, values)) + jobs + b'\0', f'1 1\n{number} 4\n0 0 0\n'
 
 
 def some_job(rnd, graph):
@@ -101,7 +114,7 @@ def some_job(rnd, graph):
 def some_day(rnd):
     """a map, jobs, and now and then a record that is no job"""
     graph = some_graph(rnd, rnd.choice((1, 2, 4, 9, 40, 64)))
-    before = records_before_job(rnd, graph, any_estimates(rnd, graph))
+    before = records_before_job(rnd, graph, *with_default(rnd, graph, any_estimates(rnd, graph)))
     later = [rnd.choice(before) if rnd.random() < 0.05 else some_job(rnd, graph) for _ in range(rnd.randrange(8))]
     return before + later
 

@@ -2,43 +2,38 @@
 import itertools
 
 from floors import ONES, SIXTEENS
-from reference import (COST, ESTIMATE, FACTOR, FACTORS, GOALS, LENGTH, ORDER, PLACES, SIZES, arc, estimate, factors, head, job, measured, p16, record,
-                       wait)
+from reference import (COST, ESTIMATE, FACTOR, FACTORS, GOALS, LENGTH, ORDER, PLACES, SIZES, arc, default, estimate, factors, head, job, measured,
+                       p16, record, wait)
 
-# what gets 21 in the map below: two waits for one place, and one with which a lane of either kind is too dear
-BAD_WAITS = [wait(2, 5), wait(2, 5)], [wait(0, COST)], [wait(1, COST)]
+# records that get a number in the map below, in every way that is tried: for 8 and 9 by an estimate of a place, and by a default; for 13 also under a
+# default; for 21 two waits for one place, and one with which a lane of either kind is too dear; for 22 a second table, one factor too small or too
+# large, and one smaller than the one before
+BAD = {
+    2: ([record(9, b'')],),
+    3: ([record(3, b'\0')], [record(8, bytes(3))]),
+    6: ([estimate(3, 1)],),
+    8: ([estimate(0, ESTIMATE + 1)], [default(ESTIMATE + 1)]),
+    9: ([estimate(1, 1)] * 2, [default(1)] * 2),
+    21: ([wait(2, 5)] * 2, [wait(0, COST)], [wait(1, COST)]),
+    22: ([factors(FACTORS)] * 2, [factors((0, *FACTORS[1:]))], [factors((*FACTORS[:-1], FACTOR + 1))], [factors((1, 2, 3, 4, 5, 4, 8, 16))]),
+    13: ([estimate(2, 4)], [default(4), estimate(2, 4)]),
+}
 
-# what gets 22: a second table, one factor too small or too large, and one smaller than the one before
-BAD_TABLES = [factors(FACTORS)] * 2, [factors((0, *FACTORS[1:]))], [factors((*FACTORS[:-1], FACTOR + 1))], [factors((1, 2, 3, 4, 5, 4, 8, 16))]
 
-
-def broken(kinds, waits=BAD_WAITS[0], tables=BAD_TABLES[0]):
-    """an input that has the conditions of these refusals, 21 by these waits, 22 by these tables, and asks for 56 words and 16 bytes"""
+def broken(kinds, ways=None):
+    """an input that has the conditions of these refusals, by these records where several get a number, and asks for 56 words and 16 bytes"""
     n, first, arcs, more = 3, head(3, 4), [arc(0, 1, 2), measured(1, 2, 1, 1), arc(2, 0, 2), measured(2, 0, 1, 1)], []
-    if 2 in kinds:
-        more.append(record(8, b''))
-    if 3 in kinds:
-        more.append(record(3, b'\0'))
+    for number in BAD:
+        if number in kinds:
+            more += (ways or {}).get(number, BAD[number][0])
     if 4 in kinds:
         more.append(first)
     if 5 in kinds:
         first = head(n, 7)
-    if 6 in kinds:
-        more.append(estimate(n, 1))
     if 7 in kinds:
         arcs[2] = arc(2, 0, 0)
-    if 8 in kinds:
-        more.append(estimate(0, ESTIMATE + 1))
-    if 9 in kinds:
-        more += [estimate(1, 1), estimate(1, 1)]
     if 20 in kinds:
         arcs[3] = measured(2, 0, 0, 1)
-    if 21 in kinds:
-        more += waits
-    if 22 in kinds:
-        more += tables
-    if 13 in kinds:
-        more.append(estimate(2, 4))
     last = job(n if 11 in kinds else 0, 999, [2, 2] if 12 in kinds else [2])
     return b''.join([first, *arcs, *more, last, last if 10 in kinds else b'', b'\0\0' if 1 in kinds else b''])
 
@@ -48,9 +43,10 @@ def refused():
     alone = [number for number in ORDER if number not in (14, 15)]
     lent = (56, 16), (55, 16), (56, 15), (55, 15), (0, 0)
     for kinds in itertools.chain([()], itertools.combinations(alone, 1), itertools.combinations(alone, 2)):
-        for waits, tables, (words, room) in itertools.product(BAD_WAITS if 21 in kinds else [[]], BAD_TABLES if 22 in kinds else [[]], lent):
+        varied = [number for number in kinds if number in BAD]
+        for (words, room), *ways in itertools.product(lent, *(BAD[number] for number in varied)):
             holding = {*kinds, *[14] * (words < 56), *[15] * (room < 16)}
-            yield broken(kinds, waits, tables), words, room, next((number for number in ORDER if number in holding), 0)
+            yield broken(kinds, dict(zip(varied, ways))), words, room, next((number for number in ORDER if number in holding), 0)
 
 
 def ends_of_fields():
@@ -77,6 +73,7 @@ def ends_of_fields():
         yield head(2, 2) + arc(0, 1, first) + wait(0, COST - 1) + arc(0, 1, second) + job(0, 472, [1])
     for h in (0, 1, ESTIMATE, ESTIMATE + 1, 2 ** 32 - 1):
         yield from (one + estimate(0, h) + job(0, 708, [1]), one + estimate(0, h) + job(0, 708, [2]), one + estimate(1, h) + job(0, 708, [1]))
+    yield from ends_of_defaults()
     for first, second in ((0, 0), (1, 1), (1, 2), (0, 2), (2, 0)):
         yield from (one + twice(2, first) + twice(2, second) + job(0, 708, [1]) for twice in (estimate, wait))
     for v in (3, 65535):
@@ -87,6 +84,26 @@ def ends_of_fields():
         yield head(100, 1) + arc(0, 99, 3) + job(0, 23600, list(range(100 - k, 100)))
     for count in (0, 2, 65535):
         yield one + job(0, 708, [1], count)
+
+
+def with_one_lane(*records, goals=(1,)):
+    """these records between a lane from 0 to 1 and a job from 0"""
+    return head(3, 1) + arc(0, 1, 1) + b''.join(records) + job(0, 708, goals)
+
+
+def ends_of_defaults():
+    """a default at the last value that is taken and at the first that is not, at the start, where all are goals, and beside another; own estimates
+    under it, wherever it stands, and those of a goal, which no default makes wrong; 9 by defaults, by estimates and by both, and 8 before it"""
+    for value in (0, 1, ESTIMATE, ESTIMATE + 1, 2 ** 32 - 1):
+        yield from (with_one_lane(default(value), goals=goals) for goals in ([1], [2], [0, 1, 2]))
+        yield from (with_one_lane(*map(default, two)) for two in ((value, value), (value, 1), (1, value)))
+        yield from (with_one_lane(estimate(0, value), default(9), goals=goals) for goals in ([1], [2], [0, 1]))
+        yield from (with_one_lane(*mixed) for mixed in itertools.permutations((default(value), estimate(1, 0), estimate(2, 1))))
+    yield from (with_one_lane(*map(default, two)) for two in ((0, 2), (2, 0)))
+    by_default, by_estimate = (default(5),) * 2, (estimate(2, 5),) * 2
+    yield from (with_one_lane(*mixed) for mixed in ((default(5), estimate(2, 5)), by_estimate, (*by_default, *by_estimate)))
+    for large in (default(ESTIMATE + 1), estimate(0, ESTIMATE + 1)):
+        yield from (with_one_lane(*twice, large) for twice in (by_default, by_estimate))
 
 
 def with_factors(*tables, class_=1, w=0):
@@ -131,7 +148,11 @@ def ends_of_records():
     yield from (one + end + factors(table) for table in (FACTORS, ONES, (0, *ONES[1:])))
     yield one + factors(ONES) + end + factors(ONES)
     yield from (head(3, 1) + measured(0, 1, LENGTH, class_) + wait(0, 16) + end + factors(table) for class_, table in ((0, SIXTEENS), (7, ONES)))
-    for kind in (0, 8, 256, 263, 65535):
+    # and so is a default
+    yield from (one + end + default(value) for value in (0, 5, ESTIMATE + 1))
+    yield one + default(5) + end + default(5)
+    yield from (default(5) + one + end, default(5) + end, default(5))
+    for kind in (0, 9, 256, 263, 264, 65535):
         yield one + record(kind, b'') + end
     for kind, length in (*SIZES.items(), (4, 8), (4, 10)):
         for size in (length - 1, length, length + 1):

@@ -1,7 +1,7 @@
 """Random maps, and inputs damaged at random."""
 from collections import namedtuple
 
-from reference import COST, ESTIMATE, FACTOR, FACTORS, GOALS, LENGTH, arc, estimate, factors, head, job, measured, record, wait
+from reference import COST, ESTIMATE, FACTOR, FACTORS, GOALS, LENGTH, arc, default, estimate, factors, head, job, measured, record, wait
 
 
 class Graph(namedtuple('Graph', 'places arcs goals waits own', defaults=[None])):
@@ -56,6 +56,18 @@ def any_estimates(rnd, graph):
     return [0 if v in graph.goals else rnd.randint(0, high) for v in range(graph.places)]
 
 
+def with_default(rnd, graph, estimates, far=None):
+    """the estimates that hold, and a default, None for three maps in five; it stands in for what some places have, and mostly overstates at none of
+    them. far: the least cost from each place to a goal, None where there is none; where it is not known, that of an arc, which it is at least"""
+    if rnd.random() < 0.6:
+        return estimates, None
+    lost, far = rnd.choice([0, 0.1, 0.5, 1]), far or [min(cost for _, _, cost in graph.with_waits())] * graph.places
+    bare = {v for v in range(graph.places) if v not in graph.goals and rnd.random() < lost}
+    most = min((far[v] for v in bare if far[v] is not None), default=ESTIMATE)
+    value = rnd.choice([most, most, rnd.randint(0, most), 0, rnd.choice(estimates), min(rnd.randint(0, 3 * most), ESTIMATE), ESTIMATE])
+    return [value if v in bare else h for v, h in enumerate(estimates)], value
+
+
 def classes(cost, table):
     """the classes in which a lane of some length has this cost"""
     return [c for c, factor in enumerate(table) if cost % factor == 0 and cost // factor <= LENGTH]
@@ -72,20 +84,24 @@ def lane(rnd, start, end, cost, table):
     return arc(start, end, cost)
 
 
-def records_before_job(rnd, graph, estimates):
-    """arcs of both kinds, estimates, waits and factors mix freely; an estimate of 0 has a record now and then"""
+def records_before_job(rnd, graph, estimates, value=None):
+    """arcs of both kinds, estimates, waits, factors and a default of this value mix freely; an estimate that says what holds without it has a record
+    now and then"""
     mixed = [lane(rnd, *a, graph.table()) for a in graph.arcs] + [wait(*w) for w in graph.waits.items()]
     mixed += [factors(graph.own)] if graph.own else []
-    mixed += [estimate(v, h) for v, h in enumerate(estimates) if h != 0 or rnd.random() < 0.2]
+    mixed += [] if value is None else [default(value)]
+    without = [0 if v in graph.goals else value or 0 for v in range(graph.places)]
+    mixed += [estimate(v, h) for v, h in enumerate(estimates) if h != without[v] or rnd.random() < 0.2]
     rnd.shuffle(mixed)
     return [head(graph.places, len(graph.arcs)), *mixed]
 
 
 def some_map(rnd, sizes=(1, 2, 3, 4, 6, 8, 9, 17, 40, 57, 64, 65, 200)):
-    """the records of an input that is not refused, with any estimates and any allowance"""
+    """the records of an input that is not refused, with any estimates, any default and any allowance"""
     graph = some_graph(rnd, rnd.choice(sizes))
     allowance = rnd.choice([236 * graph.places, rnd.randint(0, 20 * graph.places), rnd.randint(0, 9)])
-    return records_before_job(rnd, graph, any_estimates(rnd, graph)) + [job(rnd.randrange(graph.places), allowance, graph.goals)]
+    before = records_before_job(rnd, graph, *with_default(rnd, graph, any_estimates(rnd, graph)))
+    return before + [job(rnd.randrange(graph.places), allowance, graph.goals)]
 
 
 def some_table(rnd):
@@ -96,10 +112,15 @@ def some_table(rnd):
     return table
 
 
+def some_value(rnd):
+    """an estimate, which may be too large"""
+    return rnd.choice([0, rnd.randrange(100), ESTIMATE, ESTIMATE + 1, rnd.randrange(2 ** 32)])
+
+
 def damaged(rnd, records):
-    """with other factors put in, a map may be accepted still, at other costs"""
+    """with other factors or a default put in, a map may be accepted still, at other costs or with other estimates"""
     records = list(records)
-    way = rnd.randrange(6)
+    way = rnd.randrange(7)
     if way == 0:
         return b''.join(records)[:-rnd.randint(1, 9)]
     if way == 1:
@@ -107,9 +128,11 @@ def damaged(rnd, records):
     if way == 2:
         records.insert(rnd.randrange(len(records) + 1), rnd.choice(records))
     if way == 3:
-        records.insert(rnd.randrange(len(records) + 1), record(rnd.randrange(9), bytes(rnd.randrange(10))))
+        records.insert(rnd.randrange(len(records) + 1), record(rnd.randrange(10), bytes(rnd.randrange(10))))
     if way == 5:
         records.insert(rnd.randrange(1, len(records)), factors(some_table(rnd)))
+    if way == 6:
+        records.insert(rnd.randrange(1, len(records)), default(some_value(rnd)))
     data = bytearray(b''.join(records))
     if way == 4:
         for _ in range(rnd.randint(1, 3)):

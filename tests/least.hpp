@@ -28,7 +28,7 @@ inline std::vector<long> least_costs(const Map &m)
 inline bool overstates(const Map &m, const std::vector<long> &far)
 {
     for (uint32_t v = 0; v < m.places; v++)
-        if (m.estimate[v] != plain::none && m.estimate[v] > far[v])
+        if (m.estimate_at(v) > far[v])
             return true;
     return false;
 }

@@ -10,6 +10,7 @@ A line of a listing is one record; what follows a # is a comment.
     arc from 0 to 1 cost 1
     arc from 0 to 1 length 30 class 2
     estimate at 1 is 4
+    default 5                           the estimate of every place that has none of its own, goals excepted
     wait at 3 is 40
     factors 1 1 2 2 3 3 4 4             of the classes 0 to 7
     job start 0 allowance 944 goals 3   several goals: goals 3 5 9
@@ -19,12 +20,13 @@ A line of a listing is one record; what follows a # is a comment.
 Every input has a listing that gives it back, a damaged one too."""
 import sys
 
-from reference import arc, estimate, factors, fits, frame, head, is_arc, is_known, job, measured, record, u16, u32, wait
+from reference import arc, default, estimate, factors, fits, frame, head, is_arc, is_known, job, measured, record, u16, u32, wait
 
 FORMS = {
     'places': 'places N, or places N arcs M',
     'arc': 'arc from PLACE to PLACE cost NUMBER, or .. length NUMBER class NUMBER',
     'estimate': 'estimate at PLACE is NUMBER',
+    'default': 'default NUMBER',
     'wait': 'wait at PLACE is NUMBER',
     'factors': 'factors NUMBER ..., eight of them',
     'job': 'job start PLACE allowance NUMBER goals PLACE ...',
@@ -64,6 +66,8 @@ def encode(words, arcs):
             return measured(*numbers(u, v, l, c))
         case ['estimate', 'at', v, 'is', h]:
             return estimate(number(v, 2), number(h, 4))
+        case ['default', h]:
+            return default(number(h, 4))
         case ['wait', 'at', v, 'is', w]:
             return wait(*numbers(v, w))
         case ['factors', _, _, _, _, _, _, _, _]:
@@ -117,6 +121,8 @@ def decode(kind, body, arcs):
         return f'wait at {u16(body, 0)} is {u16(body, 2)}'
     if kind == 7:
         return row('factors', body)
+    if kind == 8:
+        return f'default {u32(body, 0)}'
     return row(f'job start {u16(body, 0)} allowance {u32(body, 2)} goals', body[8:])
 
 

@@ -23,6 +23,7 @@ class Test {
         decided_ += comparison_.arcs_decide();
         waited_ += waits();
         factored_ += has_factor();
+        defaulted_ += needs_default();
         const plain::Answer whole = comparison_.answer;
         for (uint32_t enough : {whole.expansions, 0xffffffffu})
             if (!call(enough) || comparison_.answer.numbers() != whole.numbers())
@@ -33,13 +34,14 @@ class Test {
         return nullptr;
     }
 
-    // prints how often each number came, how often the number of arcs decided, and how many routes have a wait and a factor of the map's own; whether
-    // each number came with each kind, and the other three at all
+    // prints how often each number came, how often the number of arcs decided, how many routes have a wait and a factor of the map's own, and how
+    // many answers go by the default; whether each number came with each kind, and the other four at all
     bool report() const
     {
-        bool all = decided_ != 0 && waited_ != 0 && factored_ != 0;
+        bool all = decided_ != 0 && waited_ != 0 && factored_ != 0 && defaulted_ != 0;
         std::printf("maps: %u routes would be others if arcs were not counted; on %u there is a wait; %u cost otherwise by the fixed factors\n",
                     decided_, waited_, factored_);
+        std::printf("maps: %u answers would be others without the default\n", defaulted_);
         for (const char *name : Maps::names) {
             std::printf("maps: %-18s", name);
             for (uint32_t number : {0u, 16u, 17u}) {
@@ -126,7 +128,21 @@ class Test {
         return comparison_.answer.number == 0 && map_.factors != plain::fixed_factors && along_sheet(cost) != comparison_.answer.cost;
     }
 
-    uint32_t decided_ = 0, waited_ = 0, factored_ = 0;
+    // whether the call by hand gives other numbers if the places without an estimate have 0
+    bool needs_default()
+    {
+        if (map_.default_estimate == 0)
+            return false;
+        Map bare = map_;
+        bare.default_at = plain::none;
+        std::vector<uint8_t> input = input_of(bare), sheet(R3_BYTES_OF(map_.places));
+        std::vector<uint32_t> work(R3_WORDS_OF(map_.places, map_.arcs.size()));
+        plain::Answer a = router_.route(input.data(), input.size(), work.data(), work.size(), sheet.data(), sheet.size());
+        return a.numbers() != comparison_.answer.numbers();
+    }
+
+    uint32_t decided_ = 0, waited_ = 0, factored_ = 0, defaulted_ = 0;
+    plain::Router router_;
     Maps maps_;
     Map map_;
     Comparison<Routing> comparison_;

@@ -25,8 +25,10 @@ class Mutator {
         else if (way < 8)
             change(*records_.insert(i, Bytes(*j))); // one more arc, estimate, wait or table, like another
         else if (way < 9)
+            records_.insert(i, some_default()); // a map may have none, and be accepted still
+        else if (way < 10)
             change(records_.front());
-        else if (way < 11)
+        else if (way < 12)
             change(records_.back());
         else
             change(*i);
@@ -74,6 +76,16 @@ class Mutator {
         }
     }
 
+    // as large as an estimate may be, a little less or more, or small
+    Bytes some_default()
+    {
+        uint32_t value = below(2) == 0 ? below(99) : plain::largest_estimate - 1 + below(3);
+        Bytes r = {4, 0, 8, 0, 0, 0, 0, 0};
+        plain::put16(&r[4], value);
+        plain::put16(&r[6], value >> 16);
+        return r;
+    }
+
     // makes factors that may hold of those that there are
     static void put_in_order(Bytes &r)
     {
@@ -83,11 +95,11 @@ class Mutator {
             plain::put16(&r[4 + 2 * c], std::clamp(factors[c], 1u, plain::largest_factor));
     }
 
-    // gives an arc a class, or takes it away; makes a wait of an estimate, or an estimate of a wait
+    // gives an arc a class, or takes it away; makes a wait of an estimate or of a default, or an estimate of a wait
     void change_kind(Bytes &r)
     {
-        constexpr uint8_t sizes[] = {0, 0, 10, 10, 0, 12, 8}, others[] = {0, 0, 5, 6, 0, 2, 3}; // by kind
-        uint8_t kind = r[2], other = kind <= 6 ? others[kind] : 0;
+        constexpr uint8_t sizes[] = {0, 0, 10, 10, 0, 12, 8, 20, 8}, others[] = {0, 0, 5, 6, 0, 2, 3, 0, 6}; // by kind
+        uint8_t kind = r[2], other = kind <= 8 ? others[kind] : 0;
         if (other == 0 || r.size() != sizes[kind])
             return;
         r.resize(sizes[other]);

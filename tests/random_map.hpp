@@ -8,7 +8,7 @@
 class Maps {
   public:
     enum Kind { none, exact, part, gaps, overstating, kinds };
-    static constexpr const char *names[kinds] = {"no estimates", "true least costs", "a part of them", "gaps", "overstating"};
+    static constexpr const char *names[kinds] = {"no estimates", "true least costs", "a part of them", "gaps", "overstating"}; // of their own
 
     explicit Maps(uint32_t seed) : chance_(seed) {}
     uint32_t below(size_t n) { return static_cast<uint32_t>(chance_() % n); }
@@ -28,7 +28,10 @@ class Maps {
         if (m.factors != plain::fixed_factors || below(8) == 0)
             m.factors_at = below(4) == 0 ? 0 : below(m.arcs.size() + 1);
         add_waits(m, dear);
-        add_estimates(m, kind, dear);
+        std::vector<long> far = least_costs(m);
+        add_estimates(m, kind, dear, far);
+        if (below(5) < 2)
+            add_default(m, kind, far);
         return m;
     }
 
@@ -76,6 +79,8 @@ class Maps {
     template <class At> void shuffle(At first, At last) { std::shuffle(first, last, chance_); }
 
   private:
+    static constexpr uint32_t largest = plain::largest_estimate;
+
     void add_goals(Map &m, uint32_t count)
     {
         std::vector<uint32_t> all(m.places);
@@ -126,10 +131,8 @@ class Maps {
                 m.wait[v] = below(8) == 0 ? longest[v] : std::min(longest[v], below(dear + 1));
     }
 
-    void add_estimates(Map &m, Kind kind, uint32_t dear)
+    void add_estimates(Map &m, Kind kind, uint32_t dear, const std::vector<long> &far)
     {
-        constexpr uint32_t largest = 268435455;
-        std::vector<long> far = least_costs(m);
         uint32_t per_cent = below(101), lost = below(2) == 0 ? largest : below(1000); // where no goal can be reached, none overstates
         for (uint32_t v = 0; v < m.places; v++) {
             uint32_t least = far[v] == unreached ? lost : static_cast<uint32_t>(far[v]), estimate = 0;
@@ -143,6 +146,22 @@ class Maps {
                 estimate = below(8) == 0 ? below(largest + 1) : std::min(largest, (v % 2) * least + below(3 * dear));
             m.estimate.push_back(estimate == 0 && below(2) == 0 ? plain::none : estimate); // 0 with a record and without
         }
+    }
+
+    // for the places without a record, and in some maps for others, which lose theirs; only where estimates do may it overstate
+    void add_default(Map &m, Kind kind, const std::vector<long> &far)
+    {
+        uint32_t lost = below(2) == 0 ? 0 : below(101), most = largest;
+        for (uint32_t v = 0; v < m.places; v++) {
+            if (below(100) < lost)
+                m.estimate[v] = plain::none;
+            if (m.estimate[v] == plain::none && !m.is_goal(v) && far[v] != unreached)
+                most = std::min(most, static_cast<uint32_t>(far[v]));
+        }
+        uint32_t some = m.estimate_at(below(m.places)); // what a place has
+        const uint32_t values[] = {most, below(most + 1), std::min(some, most), 0}, any[] = {some, below(largest + 1)};
+        m.default_estimate = kind == overstating && below(2) == 0 ? any[below(2)] : values[below(4)];
+        m.default_at = below(m.arcs.size() + 1);
     }
 
     std::mt19937 chance_;

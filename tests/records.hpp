@@ -46,6 +46,11 @@ inline plain::Factors factors_of(const Bytes &table)
     return factors;
 }
 
+inline bool is_default(const Bytes &r)
+{
+    return r.size() == 8 && r[2] == 8;
+}
+
 // gives the head the number of arcs that there are
 inline void count_arcs(Records &records)
 {

@@ -1,4 +1,4 @@
-"""Document 01 and document 02's papers 1 to 3 and 5 to 7 once more, in Python and as plainly as possible: the second source that tests hold the
+"""Document 01 and document 02's papers 1 to 3 and 5 to 8 once more, in Python and as plainly as possible: the second source that tests hold the
 answers of the router and of the map writer and the day's report against."""
 import heapq
 
@@ -6,7 +6,7 @@ PLACES, ARCS, COST, ESTIMATE, GOALS = 4096, 16384, 65535, 268435455, 64
 LENGTH, FACTOR, FACTORS = 4095, 16, (1, 2, 3, 4, 6, 8, 12, 16)
 
 # how long a body is, by its kind; a job's depends on its goals
-SIZES = {1: 4, 2: 6, 3: 6, 5: 8, 6: 4, 7: 16}
+SIZES = {1: 4, 2: 6, 3: 6, 5: 8, 6: 4, 7: 16, 8: 4}
 JOB = 4
 
 # the refusals in the order in which they are looked for
@@ -23,6 +23,10 @@ def u32(b, i):
 
 def p16(n):
     return n.to_bytes(2, 'little')
+
+
+def p32(n):
+    return n.to_bytes(4, 'little')
 
 
 def record(kind, body):
@@ -42,7 +46,12 @@ def measured(start, end, length, class_):
 
 
 def estimate(place, value):
-    return record(3, p16(place) + value.to_bytes(4, 'little'))
+    return record(3, p16(place) + p32(value))
+
+
+def default(value):
+    """the estimate of all places that have none of their own, goals excepted"""
+    return record(8, p32(value))
 
 
 def wait(place, value):
@@ -54,7 +63,7 @@ def factors(table):
 
 
 def job(start, allowance, goals, count=None):
-    return record(JOB, p16(start) + allowance.to_bytes(4, 'little') + p16(len(goals) if count is None else count) + b''.join(map(p16, goals)))
+    return record(JOB, p16(start) + p32(allowance) + p16(len(goals) if count is None else count) + b''.join(map(p16, goals)))
 
 
 def frame(data):
@@ -85,6 +94,16 @@ def is_arc(kind):
 def values(records, kind):
     """place and value of each estimate, kind 3, or of each wait, kind 6"""
     return [(u16(b, 0), int.from_bytes(b[2:], 'little')) for k, b in records if k == kind]
+
+
+def defaults(records):
+    """the estimate of each record that gives a default"""
+    return [u32(b, 0) for k, b in records if k == 8]
+
+
+def default_of(records):
+    """the default, wherever it stands, or 0"""
+    return next(iter(defaults(records)), 0)
 
 
 def tables(records):
@@ -155,9 +174,9 @@ def map_refusal(records):
         return 6
     if any(k == 2 and u16(b, 4) == 0 for k, b in records):
         return 7
-    if any(h > ESTIMATE for _, h in estimates):
+    if any(h > ESTIMATE for h in [h for _, h in estimates] + defaults(records)):
         return 8
-    if repeats(estimates):
+    if repeats(estimates) or len(defaults(records)) > 1:
         return 9
     if any(k == 5 and not (1 <= u16(b, 4) <= LENGTH and u16(b, 6) < len(FACTORS)) for k, b in records):
         return 20
@@ -166,13 +185,17 @@ def map_refusal(records):
     return 21 if repeats(waits) or any(cost > COST for _, _, cost in arcs_of(records)) else 0
 
 
+def goals_of(body):
+    return [u16(body, i) for i in range(8, len(body), 2)]
+
+
 def job_refusal(records):
     """10 to 13, or 0, of a map that is not refused"""
     kinds, n = [k for k, _ in records], u16(records[0][1], 0)
     if kinds.count(JOB) != 1 or kinds[-1] != JOB:
         return 10
     body = records[-1][1]
-    goals = [u16(body, i) for i in range(8, len(body), 2)]
+    goals = goals_of(body)
     if u16(body, 0) >= n or any(g >= n for g in goals):
         return 11
     if not 1 <= len(goals) <= GOALS or any(g >= h for g, h in zip(goals, goals[1:])):
@@ -189,8 +212,6 @@ class Problem:
     def __init__(self, data):
         records, _ = frame(data)
         self.n = u16(records[0][1], 0)
-        estimates = dict(values(records, 3))
-        self.h = [estimates.get(v, 0) for v in range(self.n)]
         self.out = [[] for _ in range(self.n)]
         self.into = [[] for _ in range(self.n)]
         for u, v, c in arcs_of(records):
@@ -198,7 +219,9 @@ class Problem:
             self.into[v].append((u, c))
         body = records[-1][1]
         self.start, self.allowance = u16(body, 0), u32(body, 2)
-        self.goals = {u16(body, i) for i in range(8, len(body), 2)}
+        self.goals = set(goals_of(body))
+        own, without = dict(values(records, 3)), default_of(records)
+        self.h = [0 if v in self.goals else own.get(v, without) for v in range(self.n)]
 
     def least(self, limit):
         """D of every place within the limit, with the fewest arcs of a path at that cost"""
@@ -254,7 +277,7 @@ def route(data, words, room):
             return (17, 0, limit, 0, total, queries, len(s)), s
         if outcome == 'found':
             cost, places = p.route(least)
-            s = record(17, cost.to_bytes(4, 'little') + p16(len(places)) + b''.join(map(p16, places)))
+            s = record(17, p32(cost) + p16(len(places)) + b''.join(map(p16, places)))
             return (0, cost, limit, 0, total, queries, len(s)), s
         if outcome == 'ended':
             low = number
@@ -269,9 +292,9 @@ def arc_order(kind, body, table):
     return u16(body, 0), u16(body, 2), lane_cost(kind, body, table), kind, [u16(body, i) for i in range(4, len(body), 2)]
 
 
-def nonzero(records, kind):
-    """the values other than 0, by place"""
-    return sorted((place, value) for place, value in values(records, kind) if value != 0)
+def others(records, kind, without):
+    """the values other than the one that holds without a record, by place"""
+    return sorted((place, value) for place, value in values(records, kind) if value != without)
 
 
 def write_map(data, words, room):
@@ -280,11 +303,12 @@ def write_map(data, words, room):
     if number:
         return (number, 0, 0, 0, 0, 0, 0), b''
     (first, *middle, last), _ = frame(data)
-    table = table_of(middle)
+    table, value, goals = table_of(middle), default_of(middle), goals_of(last[1])
     arcs = sorted((r for r in middle if is_arc(r[0])), key=lambda lane: arc_order(*lane, table))
-    estimates, waits = [estimate(*e) for e in nonzero(middle, 3)], [wait(*w) for w in nonzero(middle, 6)]
-    own = [factors(table)] if table != FACTORS else []
-    out = b''.join([record(*first), *(record(*a) for a in arcs), *estimates, *waits, *own, record(*last)])
+    estimates = [estimate(v, h) for v, h in others(middle, 3, value) if v not in goals]
+    waits = [wait(*w) for w in others(middle, 6, 0)]
+    once = [factors(table)] * (table != FACTORS) + [default(value)] * (value != 0)
+    out = b''.join([record(*first), *(record(*a) for a in arcs), *estimates, *waits, *once, record(*last)])
     return (0, 0, 0, 0, 0, 0, len(out)), out
 
 

@@ -1,6 +1,6 @@
 /* Runs the exported calls in several threads at once, each on just the stack that r3.h names: the longest route that a map can have, the reading of
- * its sheet, the writing of its map and a report of a day with two such routes, without waits, and with waits and factors. Every thread must come to
- * the same answer, which is known. */
+ * its sheet, the writing of its map and a report of a day with two such routes, without waits, and with waits, factors and a default. Every thread
+ * must come to the same answer, which is known. */
 #define _DEFAULT_SOURCE
 #include <pthread.h>
 #include <string.h>
@@ -10,7 +10,8 @@
 
 enum { PLACES = 4096, COST = 65535, THREADS = 4, CALLS = 8, ROUTE_STACK = 320 << 10, SHEET_STACK = 64 << 10, WRITE_STACK = 64 << 10 };
 enum { REPORT_STACK = 448 << 10, LONGEST_DAY = 65536 };
-enum { HEAD = 8, LANE = 12, WAIT = 8, FACTORS = 20, JOB = 14, INPUT = HEAD + LANE * (PLACES - 1) + WAIT * PLACES + FACTORS + JOB };
+enum { HEAD = 8, LANE = 12, WAIT = 8, FACTORS = 20, DEFAULT = 8, JOB = 14 };
+enum { INPUT = HEAD + LANE * (PLACES - 1) + WAIT * PLACES + FACTORS + DEFAULT + JOB };
 
 static const uint32_t factors[] = {1, 1, 2, 3, 16, 16, 16, 16};
 static uint8_t input[INPUT], written[INPUT]; /* the map, and what the map writer makes of it */
@@ -37,8 +38,15 @@ static void put_record(uint8_t *out, uint32_t kind, const uint32_t *fields, uint
         put16(out, fields[i]);
 }
 
+/* what a map has once: factors, and a default that is the cost of an arc */
+static void put_once(uint8_t *out)
+{
+    put_record(out, 7, factors, 8);
+    put_record(out, 8, (uint32_t[]){COST, 0}, 2);
+}
+
 /* one chain through all places, each arc with its wait as dear as it may be; every second lane is measured, if one of that cost can be;
- * falling: the last arc stands first, and so does the last wait, and the factors stand before all of them */
+ * falling: the last arc stands first, and so does the last wait, and what a map has once stands before all of them */
 static void make_chain(uint8_t *out, uint32_t wait, int falling)
 {
     uint32_t allowance = 236 * PLACES, cost = COST - wait;
@@ -46,7 +54,7 @@ static void make_chain(uint8_t *out, uint32_t wait, int falling)
     length = 0;
     put_record(out, 1, (uint32_t[]){PLACES, PLACES - 1}, 2);
     if (measured && falling)
-        put_record(out, 7, factors, 8);
+        put_once(out);
     for (uint32_t i = 0; i < PLACES - 1; i++) {
         uint32_t v = falling ? PLACES - 2 - i : i;
         if (measured && v % 2 == 0)
@@ -57,7 +65,7 @@ static void make_chain(uint8_t *out, uint32_t wait, int falling)
     for (uint32_t i = 0; wait != 0 && i < PLACES; i++)
         put_record(out, 6, (uint32_t[]){falling ? PLACES - 1 - i : i, wait}, 2);
     if (measured && !falling)
-        put_record(out, 7, factors, 8);
+        put_once(out);
     put_record(out, 4, (uint32_t[]){0, allowance & 0xffff, allowance >> 16, 1, PLACES - 1}, 5);
 }
 
@@ -148,6 +156,6 @@ static int count_right(uint32_t wait)
 int main(void)
 {
     int without = count_right(0), with = count_right(15);
-    printf("threads: %d, right: %d without waits, %d with waits and factors\n", THREADS, without, with);
+    printf("threads: %d, right: %d without waits, %d with waits, factors and a default\n", THREADS, without, with);
     return without != THREADS || with != THREADS;
 }

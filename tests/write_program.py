@@ -5,11 +5,11 @@ import os
 import random
 import sys
 
-from edges import BAD_TABLES, broken
+from edges import BAD, broken
 from floors import ONES
 from listing import records
 from program import INPUT, WORK, around_longest, chain, longest, some_inputs
-from reference import FACTORS, ORDER, arc, estimate, factors, head, job, measured, wait, write_map
+from reference import ESTIMATE, FACTORS, ORDER, arc, default, estimate, factors, head, job, measured, wait, write_map
 from streams import ended, failing, given, report, slow, start, whole
 
 # a map by hand and what is made of it: from before to, to before cost, cost before kind, kind 2 before 5, length before class; a repeat stays, an
@@ -88,6 +88,32 @@ FACTORED_WRITTEN = records('''
     factors 2 3 3 3 3 3 16 16
     job start 0 allowance 708 goals 1''')
 
+# the same for a default: own estimates that differ from it stay, 0 among them; one that equals it goes, and so does that of a goal; it stands behind
+# waits and factors, right before the job
+RINGED = records('''
+    places 300
+    default 65537
+    estimate at 299 is 0
+    estimate at 258 is 65537
+    factors 1 1 1 1 1 1 1 2
+    estimate at 257 is 0
+    arc from 0 to 299 cost 9
+    estimate at 256 is 65536
+    estimate at 2 is 1
+    wait at 0 is 9
+    estimate at 1 is 0
+    job start 0 allowance 70800 goals 1 299''')
+RINGED_WRITTEN = records('''
+    places 300
+    arc from 0 to 299 cost 9
+    estimate at 2 is 1
+    estimate at 256 is 65536
+    estimate at 257 is 0
+    wait at 0 is 9
+    factors 1 1 1 1 1 1 1 2
+    default 65537
+    job start 0 allowance 70800 goals 1 299''')
+
 
 def printed(data):
     """standard output and standard error"""
@@ -103,10 +129,17 @@ def by_hand():
     yield WRITTEN, (WRITTEN, b'')
     yield FACTORED, (FACTORED_WRITTEN, b'')
     yield FACTORED_WRITTEN, (FACTORED_WRITTEN, b'')
+    yield RINGED, (RINGED_WRITTEN, b'')
+    yield RINGED_WRITTEN, (RINGED_WRITTEN, b'')
     # the fixed factors go, wherever they stand; others stay, though no lane has a class
     one, end = measured(0, 1, 9, 7), job(0, 9, [1])
     yield from ((head(2, 1) + middle + end, (head(2, 1) + one + end, b'')) for middle in (factors(FACTORS) + one, one + factors(FACTORS)))
     yield head(2, 1) + factors(ONES) + arc(0, 1, 9) + end, (head(2, 1) + arc(0, 1, 9) + factors(ONES) + end, b'')
+    # a default of 0 goes; another stays, though every place has its own, and though there is none but goals
+    yield head(2, 0) + default(0) + estimate(0, 5) + end, (head(2, 0) + estimate(0, 5) + end, b'')
+    for own, kept in ((5, estimate(0, 5)), (0, estimate(0, 0)), (ESTIMATE, b'')):
+        yield head(2, 0) + default(ESTIMATE) + estimate(0, own) + estimate(1, 0) + end, (head(2, 0) + kept + default(ESTIMATE) + end, b'')
+    yield head(1, 0) + estimate(0, 0) + default(5) + job(0, 0, [0]), (head(1, 0) + default(5) + job(0, 0, [0]), b'')
     yield full, (full, b'')  # takes all 16,384 words
     yield over, (b'', b'14\n')
     yield head(2, 0) + estimate(0, 0) + wait(1, 0) + estimate(1, 0) + job(1, 0, [0]), (head(2, 0) + job(1, 0, [0]), b'')
@@ -115,16 +148,16 @@ def by_hand():
 
 
 def refused():
-    """an input for every refusal that may come, but for 14; for 22 one for each condition"""
+    """an input for every refusal that may come, but for 14, in every way that there is"""
     yield from (broken([number]) for number in ORDER if number not in (14, 15))
-    yield from (broken([22], tables=tables) for tables in BAD_TABLES)
+    yield from (broken([number], {number: way}) for number, ways in BAD.items() for way in ways[1:])
 
 
 def many_records(rnd):
-    """estimates and waits, most of them 0, arcs of both kinds and factors, mixed"""
+    """estimates and waits, most of them 0, arcs of both kinds, factors and a default, mixed"""
     values = [value(v, rnd.choice([0, 0, v])) for v in reversed(range(1, 819)) for value in (estimate, wait)]
     arcs = [rnd.choice([arc(v % 819, v % 7, 1 + v % 99), measured(v % 819, v % 7, 1 + v % 9, v % 8)]) for v in range(1600)]
-    mixed = values + arcs + [factors((1, 1, 2, 2, 2, 9, 9, 16))]
+    mixed = values + arcs + [factors((1, 1, 2, 2, 2, 9, 9, 16)), default(7)]
     rnd.shuffle(mixed)
     return head(819, len(arcs)) + b''.join(mixed) + job(0, 9, [0])
 

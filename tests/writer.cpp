@@ -12,9 +12,8 @@
 
 namespace {
 
-constexpr uint32_t largest_estimate = 268435455;
-
 using plain::Factors;
+using plain::largest_estimate;
 
 Arc arc_of(const Bytes &r, const Factors &factors)
 {
@@ -47,21 +46,36 @@ uint32_t value_of(const Bytes &r)
     return r[2] == 3 ? plain::u32(&r[6]) : plain::u16(&r[6]);
 }
 
-bool is_zero(const Bytes &r)
+uint32_t default_of(const Bytes &r)
 {
-    return has_value(r) && value_of(r) == 0;
+    return plain::u32(&r[4]);
+}
+
+// what an estimate or a wait says that can be left out: of a goal 0
+uint32_t value_without(const Map &m, uint8_t kind, uint32_t place)
+{
+    return kind == 3 ? m.estimate_without(place) : 0;
 }
 
 // says what holds without it
-bool is_idle(const Bytes &r)
+bool is_idle(const Bytes &r, const Map &m)
 {
-    return is_zero(r) || (is_table(r) && factors_of(r) == plain::fixed_factors);
+    if (has_value(r))
+        return value_of(r) == value_without(m, r[2], plain::u16(&r[4]));
+    return is_table(r) ? factors_of(r) == plain::fixed_factors : is_default(r) && default_of(r) == 0;
 }
 
 Bytes record_of(uint8_t kind, uint32_t place, uint32_t value)
 {
     Bytes r;
     (kind == 3 ? put_estimate : put_wait)(r, place, value);
+    return r;
+}
+
+Bytes record_of_default(uint32_t value)
+{
+    Bytes r;
+    put_default(r, value);
     return r;
 }
 
@@ -75,18 +89,19 @@ bool is_in_order(Records::iterator first, Records::iterator last, const Factors 
     return std::is_sorted(first, last, [&](const Bytes &r, const Bytes &s) { return order(r) < order(s); });
 }
 
-// head, arcs in order, estimates by place and none twice, waits alike, factors, job: the same records, but for those that say what holds without them
-bool is_written_form(Records records, Records written, const Factors &factors)
+// head, arcs in order, estimates by place and none twice, waits alike, factors, default, job: the same records, but for those that say what holds
+// without them
+bool is_written_form(Records records, Records written, const Map &m)
 {
     if (records.size() < 2 || written.size() < 2 || written.front() != records.front() || written.back() != records.back())
         return false;
-    auto last = written.end() - 1, arcs = std::find_if_not(written.begin() + 1, last, is_arc), values = std::find_if_not(arcs, last, has_value);
-    auto kind_and_place = [](const Bytes &r) { return std::tuple(r[2], plain::u16(&r[4])); };
+    auto last = written.end() - 1, arcs = std::find_if_not(written.begin() + 1, last, is_arc);
+    auto kind_and_place = [](const Bytes &r) { return std::tuple(r[2], has_value(r) ? plain::u16(&r[4]) : 0); };
     auto not_rising = [&](const Bytes &r, const Bytes &s) { return kind_and_place(r) >= kind_and_place(s); };
-    if (!is_in_order(written.begin() + 1, arcs, factors) || std::adjacent_find(arcs, values, not_rising) != values ||
-        !std::all_of(values, last, is_table))
+    if (!is_in_order(written.begin() + 1, arcs, m.factors) || std::any_of(arcs, last, is_arc) || std::adjacent_find(arcs, last, not_rising) != last)
         return false;
-    records.erase(std::remove_if(records.begin() + 1, records.end() - 1, is_idle), records.end() - 1);
+    auto idle = [&](const Bytes &r) { return is_idle(r, m); };
+    records.erase(std::remove_if(records.begin() + 1, records.end() - 1, idle), records.end() - 1);
     std::sort(records.begin() + 1, records.end() - 1);
     std::sort(written.begin() + 1, written.end() - 1);
     return records == written;
@@ -104,7 +119,7 @@ class Test {
         Bytes written = written_from(records_);
         if (written.empty())
             return "not accepted, or not as by hand";
-        if (!is_written_form(records_, split(written.data(), written.size()), map_.factors))
+        if (!is_written_form(records_, split(written.data(), written.size()), map_))
             return "not in order, or not the same records";
         if (!short_areas())
             return "not refused with too little lent";
@@ -252,28 +267,45 @@ class Test {
         return true;
     }
 
-    template <uint8_t kind> bool toggle_zero(Records &records)
+    // an estimate, of a place that is no goal in most cases, or a wait
+    template <uint8_t kind> bool toggle_idle(Records &records)
     {
         uint32_t v = below(map_.places);
-        auto at = record_at(records, kind, v);
-        if (at != records.end() && !is_zero(*at))
-            return false;
-        if (at != records.end())
-            records.erase(at);
-        else
-            records.insert(somewhere(records), record_of(kind, v, 0));
-        return true;
+        return toggle(records, record_at(records, kind, v), record_of(kind, v, value_without(map_, kind, v)));
+    }
+
+    bool toggle_goal(Records &records)
+    {
+        uint32_t g = map_.goals[below(map_.goals.size())];
+        return toggle(records, record_at(records, 3, g), record_of(3, g, 0));
     }
 
     bool toggle_fixed(Records &records)
     {
-        auto at = std::find_if(records.begin(), records.end(), is_table);
-        if (at != records.end() && !is_idle(*at))
+        return toggle(records, std::find_if(records.begin(), records.end(), is_table), record_of(plain::fixed_factors));
+    }
+
+    bool toggle_no_default(Records &records)
+    {
+        return toggle(records, std::find_if(records.begin(), records.end(), is_default), record_of_default(0));
+    }
+
+    // under a default it is an estimate as any other
+    bool toggle_own_zero(Records &records)
+    {
+        uint32_t v = below(map_.places);
+        return map_.estimate_without(v) != 0 && toggle(records, record_at(records, 3, v), record_of(3, v, 0));
+    }
+
+    // puts a record in where there is none, and leaves it out where it is the same
+    bool toggle(Records &records, Records::iterator at, const Bytes &record)
+    {
+        if (at != records.end() && *at != record)
             return false;
         if (at != records.end())
             records.erase(at);
         else
-            records.insert(somewhere(records), record_of(plain::fixed_factors));
+            records.insert(somewhere(records), record);
         return true;
     }
 
@@ -312,7 +344,7 @@ class Test {
     bool change_estimate(Records &records)
     {
         uint32_t v = below(map_.places);
-        return !std::binary_search(map_.goals.begin(), map_.goals.end(), v) && change_value(records, 3, v, largest_estimate);
+        return !map_.is_goal(v) && change_value(records, 3, v, largest_estimate);
     }
 
     bool change_wait(Records &records)
@@ -324,18 +356,45 @@ class Test {
     bool change_value(Records &records, uint8_t kind, uint32_t v, uint32_t largest)
     {
         auto at = record_at(records, kind, v);
-        uint32_t before = 0, now = 1 + below(largest);
+        const uint32_t without = value_without(map_, kind, v);
+        uint32_t before = without, now = below(largest + 1);
         if (at != records.end()) {
             before = value_of(*at);
             records.erase(at);
         }
-        if (before != 0 && below(2) == 0)
-            now = 0;
+        if (before != without && below(2) == 0)
+            now = without;
         else if (below(2) == 0 || now == before)
             now = before == largest ? before - 1 : before + 1;
-        if (now != 0 || below(2) == 0)
+        if (now != without || below(2) == 0)
             records.insert(somewhere(records), record_of(kind, v, now));
         return true;
+    }
+
+    // to another, which may be none; where every place has its own, no estimate changes by that
+    bool change_default(Records &records)
+    {
+        uint32_t before = map_.default_estimate, now = below(2) == 0 ? before + 1 : below(2) == 0 ? 0 : below(largest_estimate + 1);
+        if (now == before || now > largest_estimate)
+            return false;
+        records.erase(std::remove_if(records.begin(), records.end(), is_default), records.end());
+        if (now != 0 || below(2) == 0)
+            records.insert(somewhere(records), record_of_default(now));
+        return true;
+    }
+
+    // every place gets an estimate of its own, the same as before, and the default goes
+    bool spell_default(Records &records)
+    {
+        if (map_.default_estimate == 0)
+            return false;
+        Records own;
+        for (uint32_t v = 0; v < map_.places; v++)
+            if (map_.estimate[v] == plain::none)
+                own.push_back(record_of(3, v, map_.estimate_at(v)));
+        records.erase(std::remove_if(records.begin(), records.end(), is_default), records.end());
+        records.insert(records.end() - 1, own.begin(), own.end());
+        return shuffle(records);
     }
 
     // lanes keep what their records say
@@ -423,13 +482,18 @@ class Test {
 
 const std::vector<Test::Change> Test::changes = {
     {"shuffled", true, &Test::shuffle},
-    {"estimate of 0 put in or left out", true, &Test::toggle_zero<3>},
-    {"wait of 0 put in or left out", true, &Test::toggle_zero<6>},
+    {"estimate that holds without it put in or left out", true, &Test::toggle_idle<3>},
+    {"estimate of a goal put in or left out", true, &Test::toggle_goal},
+    {"wait of 0 put in or left out", true, &Test::toggle_idle<6>},
     {"fixed factors put in or left out", true, &Test::toggle_fixed},
+    {"default of 0 put in or left out", true, &Test::toggle_no_default},
     {"lane changed", false, &Test::change_lane},
     {"lane dropped", false, &Test::drop_lane},
     {"lane doubled", false, &Test::double_lane},
     {"estimate changed", false, &Test::change_estimate},
+    {"estimate of 0 under a default put in or left out", false, &Test::toggle_own_zero},
+    {"default changed", false, &Test::change_default},
+    {"default spelled out", false, &Test::spell_default},
     {"wait changed", false, &Test::change_wait},
     {"factors changed", false, &Test::change_factors},
     {"place added", false, &Test::add_place},

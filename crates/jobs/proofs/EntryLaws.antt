@@ -18,7 +18,7 @@ use Rattle.model.specs.Lists.{isGiven}
 use Rattle.model.specs.Sums.{sumOver}
 use Rattle.model.proofs.Bytes.{take-bytes, drop-bytes, append-bytes}
 use Rattle.model.proofs.Framing.{frame-none, frame-short, frame-cons, frame-more, frame-whole}
-use Rattle.model.proofs.Items.{KindOf, is-head, is-lane, is-estimate, is-job, is-measured, is-wait, is-factors, is-other, kind-of}
+use Rattle.model.proofs.Items.{KindOf, is-head, is-lane, is-estimate, is-job, is-measured, is-wait, is-factors, is-default, is-other, kind-of}
 use Rattle.area.specs.Part.{part}
 use Rattle.map.specs.declared.record as declared
 use Rattle.map.specs.declared.record.Read.the-variants.{Whole, Broken, End}
@@ -292,7 +292,8 @@ job-by-kind r = go (itemOf r) (kind-of r)
     go i (is-measured k) = rw k
     go i (is-wait k) = rw k
     go i (is-factors k) = rw k
-    go i (is-other a b c not-job d e f) = sym (ne-eqb (r .kind) jobKind not-job)
+    go i (is-default k) = rw k
+    go i (is-other a b c not-job d e f g) = sym (ne-eqb (r .kind) jobKind not-job)
 
 -- the map is the bytes before `at` and the records from there up to the first job
 pub record MapLeft (input : List ℕ) (at : ℕ) : Type 0 where

@@ -9,14 +9,14 @@ use lib.Dec.{ltb, leb, eqb}
 use lib.ListN.{length}
 use borrow.Author.Tests.{lt-ltb, leb-false, ne-eqb}
 use Rattle.judge.specs.Numbers.{noNumber, numberOr}
-use Rattle.judge.specs.Survey.{given, opening, sizeOr, isHead, stray, jobOr, lastJob, placed, itemRows}
+use Rattle.judge.specs.Survey.{given, fewPlaces, opening, sizeOr, isHead, stray, jobOr, lastJob, placed, itemRows}
 use Rattle.model.specs.Stated.{noSize}
 use Rattle.model.specs.Refusals.{row}
 use Rattle.model.proofs.Tests.{any-filterMap-append, filterMap-append, any-append, or-swap, repeats-snoc}
 use Rattle.judge.proofs.NumberLaws.{Joined, none as end, more}
 use Rattle.map.specs.declared.record as declared
 use Rattle.map.specs.declared.record.Item.{Item}
-use Rattle.map.specs.declared.record.Item.the-variants.{Head, Lane, Measured, Estimate, Wait, Factors, Job, Misfit, Other}
+use Rattle.map.specs.declared.record.Item.the-variants.{Head, Lane, Measured, Estimate, Wait, Factors, Default, Job, Misfit, Other}
 use Rattle.map.specs.Items.{isMisfit, meant}
 use Rattle.model.specs.Items as model
 use Rattle.model.specs.Limits.{maxEstimate}
@@ -73,6 +73,29 @@ opening-size (i ∷ is) e = go (model.sizeIn i) e
     go none e = absurd (true≢false e)
     go (some z) e = refl
 
+-- a size as it is noted: no places where they are more than a map can have
+abbrev pub notedSize : model.Size → model.Size
+notedSize z = record { places = fewPlaces (z .places); arcs = z .arcs }
+
+-- the size with one item more: a head states it, if it is the first item
+abbrev pub sizeAfter : Bool → model.Size → Option model.Size → model.Size
+sizeAfter first now none = now
+sizeAfter first now (some z) = cond first (notedSize z) now
+
+pub size-kept : (now : model.Size) (o : Option model.Size) → sizeAfter false now o ≡ now
+size-kept now none = refl
+size-kept now (some z) = refl
+
+pub opening-snoc : (is : List model.Item) (j : model.Item)
+    → sizeAfter (eqb (length is) 0) (notedSize (opening is)) (model.sizeIn j) ≡ notedSize (opening (is ++ (j ∷ [])))
+unfolding opening
+opening-snoc [] j = go (model.sizeIn j)
+  where
+    go : (o : Option model.Size) → sizeAfter true noSize o ≡ notedSize (sizeOr o)
+    go none = refl
+    go (some z) = refl
+opening-snoc (i ∷ is) j = rw (ne-eqb (suc (length is)) 0 (λ z. omega arith)) (size-kept (notedSize (sizeOr (model.sizeIn i))) (model.sizeIn j))
+
 -- of items, that one is stray is that there is none at the head or a second one
 some-head : (is : List model.Item) → any isHead is ≡ ltb 1 (suc (length (filterMap model.sizeIn is)))
 unfolding any filterMap consIf isGiven
@@ -105,6 +128,7 @@ isOther (Measured l) = false
 isOther (Estimate e) = false
 isOther (Wait w) = false
 isOther (Factors at) = false
+isOther (Default x) = false
 isOther (Job j) = false
 isOther Misfit = false
 isOther Other = true
@@ -112,9 +136,9 @@ isOther Other = true
 unfoldable pub strayAt : Bool → model.Item → Bool
 strayAt first j = cond first (not (isHead j)) (isHead j)
 
--- the conditions that one item meets, after others whose estimates have these places
-unfoldable pub own : (unknown misfit first : Bool) (n : ℕ) (places : List ℕ) → model.Item → List Row
-own unknown misfit first n places j =
+-- the conditions that one item meets, after others whose estimates have these places, and with a default among them or not
+unfoldable pub own : (unknown misfit first : Bool) (n : ℕ) (places : List ℕ) (earlier : Bool) → model.Item → List Row
+own unknown misfit first n places earlier j =
     let s = placed n (statedBy (j ∷ [])) in
     row 2 unknown
     ∷ row 3 misfit
@@ -122,7 +146,7 @@ own unknown misfit first n places j =
     ∷ row 6 (outsideMap s)
     ∷ row 7 (freeArc s)
     ∷ row 8 (largeEstimate s)
-    ∷ row 9 (any (λ (e : model.PlaceValue). member (e .place) places) (s .estimates))
+    ∷ row 9 (any (λ (e : model.PlaceValue). member (e .place) places) (s .estimates) || any (λ (x : ℕ). earlier) (s .defaults))
     ∷ row 20 (wrongMeasure s)
     ∷ []
 
@@ -150,6 +174,23 @@ twice-snoc is j = rw (filterMap-append model.estimateIn is (j ∷ [])) (go (mode
         let place = e .place in
         rw (map-append (λ (e : model.PlaceValue). e .place) es (e ∷ []), repeats-snoc (placesIn es) place, or-false (member place (placesIn es)))
 
+-- a default that follows another is a second one
+second-snoc : (is : List model.Item) (j : model.Item)
+    → ltb 1 (length (filterMap model.defaultIn (is ++ (j ∷ []))))
+    ≡ (ltb 1 (length (filterMap model.defaultIn is))
+    || any (λ (x : ℕ). not (eqb (length (filterMap model.defaultIn is)) 0)) (filterMap model.defaultIn (j ∷ [])))
+unfolding filterMap consIf any
+second-snoc is j = rw (filterMap-append model.defaultIn is (j ∷ [])) (go (filterMap model.defaultIn is) (model.defaultIn j))
+  where
+    go : (xs : List ℕ) (o : Option ℕ)
+        → ltb 1 (length (xs ++ consIf o [])) ≡ (ltb 1 (length xs) || any (λ (x : ℕ). not (eqb (length xs) 0)) (consIf o []))
+    go xs none = rw (append-nil xs) (sym (or-false (ltb 1 (length xs))))
+    go [] (some y) = refl
+    go (x ∷ []) (some y) = refl
+    go (x ∷ z ∷ xs) (some y) =
+        let two : (n : ℕ) → ltb 1 (suc (suc n)) ≡ true = λ n. lt-ltb 1 (suc (suc n)) (omega arith) in
+        rw (two (length xs), two (length (xs ++ (y ∷ []))))
+
 or-joined : {x y : Bool} (a b c d : Bool) → x ≡ (a || b) → y ≡ (c || d) → (x || y) ≡ ((a || c) || (b || d))
 or-joined a b c d p q = ap₂ (λ (x y : Bool). x || y) p q ∙ or-swap a b c d
 
@@ -164,8 +205,18 @@ outside-snoc n is j =
     (or-joined lanes _ estimates _ (any-filterMap-append model.laneIn _ is (j ∷ [])) (any-filterMap-append model.estimateIn _ is (j ∷ [])))
     (any-filterMap-append model.waitIn _ is (j ∷ []))
 
+large-snoc : (is : List model.Item) (j : model.Item)
+    → largeEstimate (statedBy (is ++ (j ∷ []))) ≡ (largeEstimate (statedBy is) || largeEstimate (statedBy (j ∷ [])))
+unfolding statedBy largeEstimate
+large-snoc is j =
+    let large = any (λ (e : model.PlaceValue). ltb maxEstimate (e .value)) (filterMap model.estimateIn is) in
+    or-joined large _ (any (ltb maxEstimate) (filterMap model.defaultIn is)) _
+    (any-filterMap-append model.estimateIn _ is (j ∷ []))
+    (any-filterMap-append model.defaultIn _ is (j ∷ []))
+
 pub joined : (U W u w : Bool) (n : ℕ) (is : List model.Item) (j : model.Item)
-    → Joined noNumber 1 (itemRows U W n is) (own u w (eqb (length is) 0) n (placesIn (filterMap model.estimateIn is)) j)
+    → let earlier = not (eqb (length (filterMap model.defaultIn is)) 0) in
+    Joined noNumber 1 (itemRows U W n is) (own u w (eqb (length is) 0) n (placesIn (filterMap model.estimateIn is)) earlier j)
     (itemRows (U || u) (W || w) n (is ++ (j ∷ [])))
 unfolding itemRows own mapRows placed statedBy outsideMap freeArc largeEstimate twoEstimates wrongMeasure
 joined U W u w n is j =
@@ -174,45 +225,48 @@ joined U W u w n is j =
     (more 4 refl (stray-snoc is j)
     (more 6 refl (outside-snoc n is j)
     (more 7 refl (any-filterMap-append model.laneIn _ is (j ∷ []))
-    (more 8 refl (any-filterMap-append model.estimateIn _ is (j ∷ []))
-    (more 9 refl (twice-snoc is j)
+    (more 8 refl (large-snoc is j)
+    (more 9 refl (or-joined (repeats (placesIn (filterMap model.estimateIn is))) _ _ _ (twice-snoc is j) (second-snoc is j))
     (more 20 refl (any-filterMap-append model.laneIn _ is (j ∷ [])) (end refl))))))))
 
--- an estimate's place has an estimate already
-abbrev pub Again : Bool → ℕ → List ℕ → Bool → Item → Type 0
-Again first n places again i =
-    (e : declared.PlaceValue.PlaceValue) → i ≡ Estimate e → first ≡ false → e .place < n → again ≡ member (e .place) places
+-- an estimate's place has an estimate already, or there is a default already
+pub record Again (n : ℕ) (places : List ℕ) (earlier again : Bool) (i : Item) : Type 0 where
+  pub estimate : (e : declared.PlaceValue.PlaceValue) → i ≡ Estimate e → e .place < n → again ≡ member (e .place) places
+  pub default : (x : ℕ) → i ≡ Default x → again ≡ earlier
 
 -- what an item is given is the number of the conditions that it meets
-pub own-given : (input : List ℕ) (first : Bool) (n : ℕ) (places : List ℕ) (again : Bool) (i : Item) → Again first n places again i
-    → numberOr noNumber (own (isOther i) (isMisfit i) first n places (meant input i)) ≡ given first n again i
-unfolding numberOr own strayAt isOther isMisfit meant given placed statedBy outsideMap freeArc isFree
-    largeEstimate wrongMeasure mismeasured
-    filterMap consIf any isGiven model.sizeIn model.laneIn model.estimateIn model.waitIn model.jobIn
-own-given input true n places again (Head z) h = refl
-own-given input false n places again (Head z) h = refl
-own-given input true n places again (Lane l) h = refl
-own-given input false n places again (Lane l) h = simp or-false
-own-given input true n places again (Measured l) h = refl
-own-given input false n places again (Measured l) h = simp or-false
-own-given input true n places again (Estimate e) h = refl
-own-given input false n places again (Estimate e) h = simp or-false (go (leb n (e .place)) refl)
-  where
-    go : (t : Bool) → leb n (e .place) ≡ t
-        → cond t 6 (cond (ltb maxEstimate (e .value)) 8 (cond (member (e .place) places) 9 noNumber))
-        ≡ cond t 6 (cond (ltb maxEstimate (e .value)) 8 (cond again 9 noNumber))
-    go true f = refl
-    go false f = rw (h e refl refl (leb-false n (e .place) f))
-own-given input true n places again (Wait w) h = refl
-own-given input false n places again (Wait w) h = simp or-false
-own-given input true n places again (Factors at) h = refl
-own-given input false n places again (Factors at) h = refl
-own-given input true n places again (Job j) h = refl
-own-given input false n places again (Job j) h = refl
-own-given input true n places again Misfit h = refl
-own-given input false n places again Misfit h = refl
-own-given input true n places again Other h = refl
-own-given input false n places again Other h = refl
+module _ (input : List ℕ) (n : ℕ) (places : List ℕ) (earlier again : Bool) where
+  pub own-given : (first : Bool) (i : Item) → (first ≡ false → Again n places earlier again i)
+      → numberOr noNumber (own (isOther i) (isMisfit i) first n places earlier (meant input i)) ≡ given first n again i
+  unfolding numberOr own strayAt isOther isMisfit meant given placed statedBy outsideMap freeArc isFree
+      largeEstimate wrongMeasure mismeasured
+      filterMap consIf any isGiven model.sizeIn model.laneIn model.estimateIn model.defaultIn model.waitIn model.jobIn
+  own-given true (Head z) h = refl
+  own-given false (Head z) h = refl
+  own-given true (Lane l) h = refl
+  own-given false (Lane l) h = simp or-false
+  own-given true (Measured l) h = refl
+  own-given false (Measured l) h = simp or-false
+  own-given true (Estimate e) h = refl
+  own-given false (Estimate e) h = simp or-false (go (leb n (e .place)) refl)
+    where
+      go : (t : Bool) → leb n (e .place) ≡ t
+          → cond t 6 (cond (ltb maxEstimate (e .value)) 8 (cond (member (e .place) places) 9 noNumber))
+          ≡ cond t 6 (cond (ltb maxEstimate (e .value)) 8 (cond again 9 noNumber))
+      go true f = refl
+      go false f = rw (h refl .estimate e refl (leb-false n (e .place) f))
+  own-given true (Wait w) h = refl
+  own-given false (Wait w) h = simp or-false
+  own-given true (Factors at) h = refl
+  own-given false (Factors at) h = refl
+  own-given true (Default x) h = refl
+  own-given false (Default x) h = simp or-false (rw (h refl .default x refl))
+  own-given true (Job j) h = refl
+  own-given false (Job j) h = refl
+  own-given true Misfit h = refl
+  own-given false Misfit h = refl
+  own-given true Other h = refl
+  own-given false Other h = refl
 
 -- a first item's number has nothing to do with the map
 pub given-first : (n m : ℕ) (a b : Bool) (i : Item) → given true n a i ≡ given true m b i
@@ -223,6 +277,7 @@ given-first n m a b (Measured l) = refl
 given-first n m a b (Estimate e) = refl
 given-first n m a b (Wait w) = refl
 given-first n m a b (Factors at) = refl
+given-first n m a b (Default x) = refl
 given-first n m a b (Job j) = refl
 given-first n m a b Misfit = refl
 given-first n m a b Other = refl

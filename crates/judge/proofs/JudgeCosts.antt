@@ -83,6 +83,7 @@ module _ (input marks : List ℕ) (s : Survey) (factors : List ℕ) (now : Right
           few = right .few;
           arcs = right .states .arcs;
           factors = right .states .factors;
+          default = right .states .default;
           job = right .states .job (eqb-true _ _ (not-false _ (parts .0)));
           goals-end = right .states .goals-end (not-false _ (parts .1));
           estimated = right .states .estimated;

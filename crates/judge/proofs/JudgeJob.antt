@@ -107,8 +107,8 @@ module _ (input marks : List ℕ) (s : Survey) (j : OneJob input marks s) where
 
       pub accepted : n ≡ noNumber → (job : Job) → job .site ≡ record { places = s .places; arcs = s .arcs; start = s .job .start; growth = 2 }
           → job .allowance ≡ s .job .allowance → job .goals ≡ s .job .goals → job .«goals_at» ≡ s .job .«goals_at»
-          → job .«factors_at» ≡ s .«factors_at» → Judged input (Accepted job)
-      accepted none job is-site is-allowance is-count is-at is-table =
+          → job .«factors_at» ≡ s .«factors_at» → job .default ≡ s .default → Judged input (Accepted job)
+      accepted none job is-site is-allowance is-count is-at is-table is-default =
           let states : States input job =
           record {
             places = ap (λ (x : Site). x .places) is-site ∙ j .places;
@@ -119,6 +119,7 @@ module _ (input marks : List ℕ) (s : Survey) (j : OneJob input marks s) where
             goals-end = rw (is-count, is-at) (j .goals-end);
             goals = rw (is-count, is-at) goals-same;
             factors = rw is-table (j .factors);
+            default = is-default ∙ j .default;
           } in
           record {
             number = sym (refusal-same ∙ rw (eq-eqb n noNumber none));

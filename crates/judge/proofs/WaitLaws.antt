@@ -12,13 +12,13 @@ use borrow.Author.Tests.{eq-eqb, ne-eqb, le-ltb}
 use types.Run.{OneOf, miss}
 use denote.Enum.Declared.{tagOf}
 use Rattle.model.specs.Framing.{frame}
-use Rattle.model.specs.Items.{Lane, PlaceValue, Item, head, lane, estimate, job, wait, ownFactors, other, items, laneIn, waitIn}
+use Rattle.model.specs.Items.{Lane, PlaceValue, Item, head, lane, estimate, job, wait, ownFactors, defaultEstimate, other, items, laneIn, waitIn}
 use Rattle.model.specs.Limits.{maxPlaces, maxCost}
 use Rattle.model.specs.Lists.{any, consIf, filterMap, member, repeats}
 use Rattle.model.specs.Refusals.{placesIn, wrongWait}
 use Rattle.model.specs.Stated.{Stated, statedBy, stated, statedIn, lookup, costUnder, laneCost, waitAt, arcOf}
-use Rattle.model.proofs.Acceptance.{lookup-below}
 use Rattle.model.proofs.Lists.{filterMap-member}
+use Rattle.model.proofs.Lookups.{lookup-below}
 use Rattle.model.proofs.Tests.{any-none, repeats-snoc}
 use Rattle.map.specs.declared.record as declared
 use Rattle.map.specs.declared.record.Item.the-variants as variants
@@ -96,6 +96,7 @@ module _ {s : Stated} {is : List Item} {noted : List ℕ} {twice : Bool} where
   one-noted (job j) inside now = step-none refl now
   one-noted (wait w) inside now = step-wait w (inside w refl) now
   one-noted (ownFactors fs) inside now = step-none refl now
+  one-noted (defaultEstimate x) inside now = step-none refl now
   one-noted other inside now = step-none refl now
 
 -- what is kept while waits are noted: the notes, and whether two are for one place
@@ -158,15 +159,16 @@ notes-wait {i} {noted} {w} can is =
     })
 
 -- nothing else is noted
-pub notes-none : (i : declared.Item.Item) (noted : List ℕ) → OneOf (0 ∷ 1 ∷ 2 ∷ 3 ∷ 5 ∷ 6 ∷ 7 ∷ 8 ∷ []) (tagOf the-type i)
+pub notes-none : (i : declared.Item.Item) (noted : List ℕ) → OneOf (0 ∷ 1 ∷ 2 ∷ 3 ∷ 5 ∷ 6 ∷ 7 ∷ 8 ∷ 9 ∷ []) (tagOf the-type i)
     → NotedItem (ofMap i) noted false noted
 unfolding meant notedBy noteAgain
 notes-none (variants.Head s) noted k = record { before = refl; after = refl }
 notes-none (variants.Lane l) noted k = record { before = refl; after = refl }
 notes-none (variants.Measured l) noted k = record { before = refl; after = refl }
 notes-none (variants.Estimate e) noted k = record { before = refl; after = refl }
-notes-none (variants.Wait w) noted k = absurd (miss (0 ∷ 1 ∷ 2 ∷ 3 ∷ 5 ∷ 6 ∷ 7 ∷ 8 ∷ []) 4 tt k)
+notes-none (variants.Wait w) noted k = absurd (miss (0 ∷ 1 ∷ 2 ∷ 3 ∷ 5 ∷ 6 ∷ 7 ∷ 8 ∷ 9 ∷ []) 4 tt k)
 notes-none (variants.Factors at) noted k = record { before = refl; after = refl }
+notes-none (variants.Default x) noted k = record { before = refl; after = refl }
 notes-none (variants.Job j) noted k = record { before = refl; after = refl }
 notes-none variants.Misfit noted k = record { before = refl; after = refl }
 notes-none variants.Other noted k = record { before = refl; after = refl }
@@ -191,13 +193,14 @@ module _ {factors input noted : List ℕ} (can : Weighable factors input noted) 
   one-weighed is dear (job j) now = rw (or-false dear) now
   one-weighed is dear (wait w) now = rw (or-false dear) now
   one-weighed is dear (ownFactors fs) now = rw (or-false dear) now
+  one-weighed is dear (defaultEstimate x) now = rw (or-false dear) now
   one-weighed is dear other now = rw (or-false dear) now
 
   -- a wait is at most 65,535
   notes-small : (v : ℕ) → getD noted v 0 ≤ 65536
   notes-small v =
       let ws = st .waits in
-      let small = lookup-below ws 65535 (λ w i. let h = can .fits .value w i in omega arith) v in
+      let small = lookup-below 0 ws 65535 (omega arith) (λ w i. let h = can .fits .value w i in omega arith) v in
       omega (arith, can .notes v, noted-wait ws v)
 
   -- the walk over an input has come to the item i
@@ -250,15 +253,16 @@ module _ (factors noted : List ℕ) {i : Item} {l : Lane} (is : i ≡ lane l) wh
   lane-weighed = rw is
 
 -- nothing else is too dear
-pub weighs-none : (factors noted : List ℕ) (i : declared.Item.Item) → OneOf (0 ∷ 3 ∷ 4 ∷ 5 ∷ 6 ∷ 7 ∷ 8 ∷ []) (tagOf the-type i)
+pub weighs-none : (factors noted : List ℕ) (i : declared.Item.Item) → OneOf (0 ∷ 3 ∷ 4 ∷ 5 ∷ 6 ∷ 7 ∷ 8 ∷ 9 ∷ []) (tagOf the-type i)
     → false ≡ tooDear factors noted (ofMap i)
 unfolding meant tooDear
 weighs-none factors noted (variants.Head s) k = refl
-weighs-none factors noted (variants.Lane l) k = absurd (miss (0 ∷ 3 ∷ 4 ∷ 5 ∷ 6 ∷ 7 ∷ 8 ∷ []) 1 tt k)
-weighs-none factors noted (variants.Measured l) k = absurd (miss (0 ∷ 3 ∷ 4 ∷ 5 ∷ 6 ∷ 7 ∷ 8 ∷ []) 2 tt k)
+weighs-none factors noted (variants.Lane l) k = absurd (miss (0 ∷ 3 ∷ 4 ∷ 5 ∷ 6 ∷ 7 ∷ 8 ∷ 9 ∷ []) 1 tt k)
+weighs-none factors noted (variants.Measured l) k = absurd (miss (0 ∷ 3 ∷ 4 ∷ 5 ∷ 6 ∷ 7 ∷ 8 ∷ 9 ∷ []) 2 tt k)
 weighs-none factors noted (variants.Estimate e) k = refl
 weighs-none factors noted (variants.Wait w) k = refl
 weighs-none factors noted (variants.Factors at) k = refl
+weighs-none factors noted (variants.Default x) k = refl
 weighs-none factors noted (variants.Job j) k = refl
 weighs-none factors noted variants.Misfit k = refl
 weighs-none factors noted variants.Other k = refl

@@ -11,7 +11,7 @@ use borrow.Author.Tests.{lt-ltb, ne-eqb}
 use Rattle.judge.specs.declared.survey.Survey.{Survey}
 use Rattle.judge.specs.Numbers.{noNumber, numberOr}
 use Rattle.judge.specs.Marks.{firstMark, Clear}
-use Rattle.judge.specs.Survey.{fewPlaces, withHead, withLane, withWait, withFactors, withJob, noted, againIn, Noted, Counted}
+use Rattle.judge.specs.Survey.{fewPlaces, withHead, withLane, withWait, withFactors, withDefault, withJob, noted, againIn, Noted, Counted}
 use Rattle.judge.specs.Survey.{saidOf, said, opening, stray, lastJob, placed, itemRows, Notes, Walked, atEnd, Stating, Surveyed}
 use Rattle.model.proofs.Tests.{filterMap-length}
 use Rattle.judge.proofs.MarkLaws.{mark-two}
@@ -21,7 +21,7 @@ use Rattle.judge.proofs.SurveyLaws.{count, few-places, nothing-yet, not
 use Rattle.map.specs.declared.record as declared
 use Rattle.map.specs.declared.record.Read.the-variants.{Whole, Broken, End}
 use Rattle.map.specs.declared.record.Item.{Item}
-use Rattle.map.specs.declared.record.Item.the-variants.{Head, Lane, Measured, Estimate, Wait, Factors, Job, Misfit, Other}
+use Rattle.map.specs.declared.record.Item.the-variants.{Head, Lane, Measured, Estimate, Wait, Factors, Default, Job, Misfit, Other}
 use Rattle.map.specs.Records.{readAt, recordIn}
 use Rattle.map.specs.Items.{jobOf, endBy, EndsBy, LiesIn, Says}
 use Rattle.map.proofs.Factors.{fixed-table}
@@ -32,7 +32,7 @@ use Rattle.model.specs.Items as model
 use Rattle.model.specs.Lists.{any, filterMap, repeats}
 use Rattle.model.specs.Refusals.{unknownKind, wrongLength, beginsWithHead, wrongHead, endsWithJob, formRows, mapRows, firstThatHolds, holdsAt}
 use Rattle.model.specs.Refusals.{outsideMap, freeArc, largeEstimate, twoEstimates, wrongMeasure}
-use Rattle.model.specs.Stated.{statedBy, stated}
+use Rattle.model.specs.Stated.{statedBy, stated, default}
 use Rattle.model.proofs.Lists.{neither}
 use Rattle.model.proofs.Rows.{row-fails}
 
@@ -49,6 +49,8 @@ empty =
       waits = 0;
       tables = 0;
       «factors_at» = 0;
+      defaults = 0;
+      default = 0;
       jobs = 0;
       «job_last» = false;
       job = record { start = 0; allowance = 0; goals = 0; «goals_at» = 0 };
@@ -68,6 +70,8 @@ notes-start input marks clear =
       waits = refl;
       tables = refl;
       factors = record { lie = λ some. absurd (some refl); are = fixed-table input };
+      defaults = refl;
+      default = refl;
       jobs = refl;
       job-last = refl;
       job = refl;
@@ -92,7 +96,7 @@ walk-start input marks clear =
 -- a job that was noted last ends the bytes passed
 noted-ends : (again : Bool) (s : Survey) (r : declared.Record.Record) (i : Item) → EndsBy r i
     → noted again s i .«job_last» ≡ true → noted again s i .job .«goals_at» + 2 * noted again s i .job .goals ≡ r .end
-unfolding noted withHead withLane withWait withFactors withJob endBy
+unfolding noted withHead withLane withWait withFactors withDefault withJob endBy
 noted-ends again s r (Head z) e last =
     absurd (false≢true (sym (either (λ t. t .«job_last») (eqb (s .records) 0) _ _ false refl refl) ∙ last))
 noted-ends again s r (Lane l) e last = absurd (false≢true last)
@@ -100,6 +104,7 @@ noted-ends again s r (Measured l) e last = absurd (false≢true last)
 noted-ends again s r (Estimate x) e last = absurd (false≢true last)
 noted-ends again s r (Wait w) e last = absurd (false≢true last)
 noted-ends again s r (Factors at) e last = absurd (false≢true last)
+noted-ends again s r (Default x) e last = absurd (false≢true last)
 noted-ends again s r (Job j) e last = e
 noted-ends again s r Misfit e last = absurd (false≢true last)
 noted-ends again s r Other e last = absurd (false≢true last)
@@ -111,12 +116,14 @@ module _ (input : List ℕ) (at : ℕ) (m : List ℕ) (s : Survey) (w : Walked i
       let lanes = filterMap-length model.laneIn (said (w .passed)) in
       let waits = filterMap-length model.waitIn (said (w .passed)) in
       let tables = filterMap-length model.factorsIn (said (w .passed)) in
+      let defaults = filterMap-length model.defaultIn (said (w .passed)) in
       let jobs = filterMap-length model.jobIn (said (w .passed)) in
       record {
         records = omega (arith, w .notes .records, w .few);
         lanes = omega (arith, w .notes .lanes);
         waits = omega (arith, w .notes .waits);
         tables = omega (arith, w .notes .tables);
+        defaults = omega (arith, w .notes .defaults);
         jobs = omega (arith, w .notes .jobs);
         places = rw (w .notes .places) (few-places (opening (said (w .passed)) .places));
       }
@@ -137,7 +144,7 @@ module _ (input : List ℕ) (at : ℕ) (m : List ℕ) (s : Survey) (w : Walked i
         broken = w .broken ∙ ap (λ (f : Framed). f .broken) (is .framed);
         few = omega (arith, length-append (w .passed) (recordIn input r ∷ []), w .few, is .begins, is .lies .forward);
         notes = notes-again input (w .passed) m s (w .notes) r (is .lies) (omega (arith, is .begins)) i says marks t step;
-        goals-end = λ last. rw (step .survey) (noted-ends (againIn (s .places) m i) s r i (says .ends) (rw (step .survey) at last));
+        goals-end = λ last. rw (step .survey) (noted-ends (againIn s m i) s r i (says .ends) (rw (step .survey) at last));
       }
 
 -- ---- The end
@@ -181,7 +188,7 @@ module _ (input : List ℕ) (m : List ℕ) (s : Survey) where
   end-states : (rs : List Record) → frame input ≡ framed rs → Notes input rs m s
       → (s .«job_last» ≡ true → s .job .«goals_at» + 2 * s .job .goals ≡ length input)
       → firstThatHolds (formRows (framed rs)) ≡ 0 → Stating input m (atEnd s)
-  unfolding atEnd formRows holdsAt any stated statedBy
+  unfolding atEnd formRows holdsAt any stated statedBy default
   end-states rs is notes ends none =
       let no = row-fails (formRows (framed rs)) refl none in
       let fits : said rs ≡ model.items rs = said-fits rs (no 3) in
@@ -193,6 +200,7 @@ module _ (input : List ℕ) (m : List ℕ) (s : Survey) where
         waits = rw is (notes .waits ∙ rw fits);
         tables = rw is (notes .tables ∙ rw fits);
         factors = rw is (rw fits at (notes .factors));
+        default = rw is (notes .default ∙ rw fits);
         jobs = rw is (notes .jobs ∙ rw fits);
         job-last = rw is (notes .job-last ∙ rw fits);
         job = λ one. rw is (notes .job ∙ rw fits (last-one _ _ (model.items rs) (rw fits at (sym (notes .jobs) ∙ one))));

@@ -11,14 +11,14 @@ use Rattle.judge.specs.Numbers.{noNumber, numberOr}
 use Rattle.judge.specs.Marks.{markOf, firstMark, marked, markedBy}
 use Rattle.map.specs.declared.record as declared
 use Rattle.map.specs.declared.record.Item.{Item}
-use Rattle.map.specs.declared.record.Item.the-variants.{Head, Lane, Measured, Estimate, Wait, Factors, Job, Misfit, Other}
+use Rattle.map.specs.declared.record.Item.the-variants.{Head, Lane, Measured, Estimate, Wait, Factors, Default, Job, Misfit, Other}
 use Rattle.map.specs.Items.{jobOf, InForce}
 use Rattle.model.specs.Framing.{Record, frame}
 use Rattle.model.specs.Items as model
 use Rattle.model.specs.Limits.{maxPlaces, maxEstimate, maxLength, maxClass}
 use Rattle.model.specs.Lists.{any, isGiven, filterMap}
 use Rattle.model.specs.Refusals.{Row, row, unknownKind, wrongLength, endsWithJob, formRows, mapRows, firstThatHolds}
-use Rattle.model.specs.Stated.{Stated, noSize, noJob, fixedFactors, statedBy, statedIn, lookup}
+use Rattle.model.specs.Stated.{Stated, noSize, noJob, fixedFactors, statedBy, statedIn, lookup, default}
 
 -- ---- What a record is given by itself
 
@@ -36,10 +36,16 @@ measureNumber length class = cond (ltb length 1 || ltb maxLength length || ltb m
 abbrev pub laneNumber : Bool → (n from to own : ℕ) → ℕ
 laneNumber first n from to own = cond first 4 (cond (leb n from || leb n to) 6 own)
 
+abbrev pub valueNumber : Bool → ℕ → ℕ
+valueNumber again value = cond (ltb maxEstimate value) 8 (cond again 9 noNumber)
+
 -- again: its place has an estimate already
 abbrev pub estimateNumber : Bool → ℕ → Bool → declared.PlaceValue.PlaceValue → ℕ
-estimateNumber first n again e =
-    cond first 4 (cond (leb n (e .place)) 6 (cond (ltb maxEstimate (e .value)) 8 (cond again 9 noNumber)))
+estimateNumber first n again e = cond first 4 (cond (leb n (e .place)) 6 (valueNumber again (e .value)))
+
+-- again: there is a default already
+abbrev pub defaultNumber : Bool → Bool → ℕ → ℕ
+defaultNumber first again value = cond first 4 (valueNumber again value)
 
 -- two waits for one place, and an arc that is too dear with its wait, are looked for later
 abbrev pub waitNumber : Bool → (n place : ℕ) → ℕ
@@ -52,6 +58,7 @@ given first n again (Measured l) = laneNumber first n (l .from) (l .to) (measure
 given first n again (Estimate e) = estimateNumber first n again e
 given first n again (Wait w) = waitNumber first n (w .place)
 given first n again (Factors at) = headless first
+given first n again (Default x) = defaultNumber first again x
 given first n again (Job j) = headless first
 given first n again Misfit = 3
 given first n again Other = 2
@@ -74,6 +81,8 @@ passed s number =
       waits = s .waits;
       tables = s .tables;
       «factors_at» = s .«factors_at»;
+      defaults = s .defaults;
+      default = s .default;
       jobs = s .jobs;
       «job_last» = false;
       job = s .job;
@@ -90,6 +99,8 @@ opened s z =
       waits = s .waits;
       tables = s .tables;
       «factors_at» = s .«factors_at»;
+      defaults = s .defaults;
+      default = s .default;
       jobs = s .jobs;
       «job_last» = s .«job_last»;
       job = s .job;
@@ -110,6 +121,8 @@ withLane s from to own =
       waits = t .waits;
       tables = t .tables;
       «factors_at» = t .«factors_at»;
+      defaults = t .defaults;
+      default = t .default;
       jobs = t .jobs;
       «job_last» = t .«job_last»;
       job = t .job;
@@ -127,6 +140,8 @@ withWait s place =
       waits = t .waits + 1;
       tables = t .tables;
       «factors_at» = t .«factors_at»;
+      defaults = t .defaults;
+      default = t .default;
       jobs = t .jobs;
       «job_last» = t .«job_last»;
       job = t .job;
@@ -149,6 +164,31 @@ withFactors s at =
       waits = t .waits;
       tables = t .tables + 1;
       «factors_at» = firstTable (s .tables) (s .«factors_at») at;
+      defaults = t .defaults;
+      default = t .default;
+      jobs = t .jobs;
+      «job_last» = t .«job_last»;
+      job = t .job;
+    }
+
+-- a first default replaces 0
+abbrev pub firstDefault : (defaults noted value : ℕ) → ℕ
+firstDefault defaults noted value = cond (eqb defaults 0) value noted
+
+unfoldable pub withDefault : Bool → Survey → ℕ → Survey
+withDefault again s value =
+    let t = passed s (defaultNumber (eqb (s .records) 0) again value) in
+    record {
+      number = t .number;
+      records = t .records;
+      places = t .places;
+      arcs = t .arcs;
+      lanes = t .lanes;
+      waits = t .waits;
+      tables = t .tables;
+      «factors_at» = t .«factors_at»;
+      defaults = t .defaults + 1;
+      default = firstDefault (s .defaults) (s .default) value;
       jobs = t .jobs;
       «job_last» = t .«job_last»;
       job = t .job;
@@ -166,6 +206,8 @@ withJob s j =
       waits = t .waits;
       tables = t .tables;
       «factors_at» = t .«factors_at»;
+      defaults = t .defaults;
+      default = t .default;
       jobs = t .jobs + 1;
       «job_last» = true;
       job = j;
@@ -178,21 +220,23 @@ noted again s (Measured l) = withLane s (l .from) (l .to) (measureNumber (l .len
 noted again s (Estimate e) = passed s (estimateNumber (eqb (s .records) 0) (s .places) again e)
 noted again s (Wait w) = withWait s (w .place)
 noted again s (Factors at) = withFactors s at
+noted again s (Default x) = withDefault again s x
 noted again s (Job j) = withJob s j
 noted again s Misfit = passed s 3
 noted again s Other = passed s 2
 
--- its place has an estimate already, by the marks
-unfoldable pub againIn : ℕ → List ℕ → Item → Bool
-againIn n marks (Head z) = false
-againIn n marks (Lane l) = false
-againIn n marks (Measured l) = false
-againIn n marks (Estimate e) = marked n marks (e .place)
-againIn n marks (Wait w) = false
-againIn n marks (Factors at) = false
-againIn n marks (Job j) = false
-againIn n marks Misfit = false
-againIn n marks Other = false
+-- its place has an estimate already, by the marks; or there is a default already
+unfoldable pub againIn : Survey → List ℕ → Item → Bool
+againIn s marks (Head z) = false
+againIn s marks (Lane l) = false
+againIn s marks (Measured l) = false
+againIn s marks (Estimate e) = marked (s .places) marks (e .place)
+againIn s marks (Wait w) = false
+againIn s marks (Factors at) = false
+againIn s marks (Default x) = not (eqb (s .defaults) 0)
+againIn s marks (Job j) = false
+againIn s marks Misfit = false
+againIn s marks Other = false
 
 -- the marks with its own
 unfoldable pub marksBy : ℕ → List ℕ → Item → List ℕ
@@ -202,12 +246,13 @@ marksBy n marks (Measured l) = marks
 marksBy n marks (Estimate e) = markedBy markOf n marks (e .place) (e .value)
 marksBy n marks (Wait w) = marks
 marksBy n marks (Factors at) = marks
+marksBy n marks (Default x) = marks
 marksBy n marks (Job j) = marks
 marksBy n marks Misfit = marks
 marksBy n marks Other = marks
 
 pub record Noted (marks₀ : List ℕ) (s : Survey) (i : Item) (marks : List ℕ) (t : Survey) : Type 0 where
-  pub survey : t ≡ noted (againIn (s .places) marks₀ i) s i
+  pub survey : t ≡ noted (againIn s marks₀ i) s i
   pub mark : marks ≡ marksBy (s .places) marks₀ i
 
 -- the counts have room for one record more
@@ -216,6 +261,7 @@ pub record Counted (s : Survey) : Type 0 where
   pub lanes : s .lanes ≤ s .records
   pub waits : s .waits ≤ s .records
   pub tables : s .tables ≤ s .records
+  pub defaults : s .defaults ≤ s .records
   pub jobs : s .jobs ≤ s .records
   pub places : s .places ≤ maxPlaces
 
@@ -261,6 +307,7 @@ placed n s =
       size = record { places = n; arcs = s .size .arcs };
       lanes = s .lanes;
       estimates = s .estimates;
+      defaults = s .defaults;
       waits = s .waits;
       factors = s .factors;
       growth = s .growth;
@@ -281,6 +328,8 @@ pub record Notes (input : List ℕ) (rs : List Record) (marks : List ℕ) (s : S
   pub waits : s .waits ≡ length (filterMap model.waitIn (said rs))
   pub tables : s .tables ≡ length (filterMap model.factorsIn (said rs))
   pub factors : InForce input (s .«factors_at») (headD (filterMap model.factorsIn (said rs)) fixedFactors)
+  pub defaults : s .defaults ≡ length (filterMap model.defaultIn (said rs))
+  pub default : s .default ≡ headD (filterMap model.defaultIn (said rs)) 0
   pub jobs : s .jobs ≡ length (filterMap model.jobIn (said rs))
   pub job-last : s .«job_last» ≡ endsWithJob (said rs)
   pub job : jobOf input (s .job) ≡ lastJob noJob (said rs)
@@ -309,6 +358,8 @@ atEnd s =
       waits = s .waits;
       tables = s .tables;
       «factors_at» = s .«factors_at»;
+      defaults = s .defaults;
+      default = s .default;
       jobs = s .jobs;
       «job_last» = s .«job_last»;
       job = s .job;
@@ -326,6 +377,7 @@ pub record Stating (input : List ℕ) (marks : List ℕ) (s : Survey) : Type 0 w
   pub waits : s .waits ≡ length (statedIn input .waits)
   pub tables : s .tables ≡ length (filterMap model.factorsIn (model.items (frame input .records)))
   pub factors : InForce input (s .«factors_at») (statedIn input .factors)
+  pub default : s .default ≡ default (statedIn input)
   pub jobs : s .jobs ≡ length (filterMap model.jobIn (model.items (frame input .records)))
   pub job-last : s .«job_last» ≡ endsWithJob (model.items (frame input .records))
   pub job : s .jobs ≡ 1 → jobOf input (s .job) ≡ statedIn input .job

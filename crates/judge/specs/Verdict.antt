@@ -13,7 +13,7 @@ use Rattle.model.specs.Framing.{frame}
 use Rattle.model.specs.Items.{items}
 use Rattle.model.specs.Limits.{maxPlaces, maxGoals}
 use Rattle.model.specs.Refusals.{wrongJob, formRows, mapRows, factorRows, costRows, jobRows, firstThatHolds, firstOf, inputRefusal}
-use Rattle.model.specs.Stated.{IsTable, statedIn}
+use Rattle.model.specs.Stated.{IsTable, statedIn, default}
 
 abbrev pub goalsWrong : ℕ → Bool → Bool
 goalsWrong k falls = ltb k 1 || ltb maxGoals k || falls
@@ -52,6 +52,7 @@ pub record OneJob (input : List ℕ) (marks : List ℕ) (s : Survey) : Type 0 wh
   pub few : s .places ≤ maxPlaces
   pub arcs : s .arcs ≡ statedIn input .size .arcs
   pub factors : InForce input (s .«factors_at») (statedIn input .factors)
+  pub default : s .default ≡ default (statedIn input)
   pub job : jobOf input (s .job) ≡ statedIn input .job
   pub goals-end : s .job .«goals_at» + 2 * s .job .goals ≡ length input
   pub estimated : MarksTell input marks (s .places)

@@ -7,7 +7,7 @@ use Prim.Native.Nat.{ℕ, _+_, _-_, _≤_, _<_}
 use lib.Dec.{ltb, eqb}
 use lib.ListN.{length, getD, set}
 use Rattle.model.specs.Framing.{frame}
-use Rattle.model.specs.Items.{Lane, PlaceValue, Item, head, lane, estimate, job, wait, ownFactors, other, laneIn, waitIn}
+use Rattle.model.specs.Items.{Lane, PlaceValue, Item, head, lane, estimate, job, wait, ownFactors, defaultEstimate, other, laneIn, waitIn}
 use Rattle.model.specs.Limits.{maxPlaces, maxCost}
 use Rattle.model.specs.Lists.{any, filterMap, repeats}
 use Rattle.model.specs.Refusals.{wrongLength, mismeasured, placesIn}
@@ -45,6 +45,7 @@ notedBy (estimate e) noted = noted
 notedBy (job j) noted = noted
 notedBy (wait w) noted = cond (eqb (getD noted (w .place) 0) 0) (set noted (w .place) (noteOf (w .value))) noted
 notedBy (ownFactors fs) noted = noted
+notedBy (defaultEstimate x) noted = noted
 notedBy other noted = noted
 
 -- its place has a wait already
@@ -55,6 +56,7 @@ noteAgain (estimate e) noted = false
 noteAgain (job j) noted = false
 noteAgain (wait w) noted = not (eqb (getD noted (w .place) 0) 0)
 noteAgain (ownFactors fs) noted = false
+noteAgain (defaultEstimate x) noted = false
 noteAgain other noted = false
 
 pub record NotedItem (i : Item) (noted₀ : List ℕ) (again : Bool) (noted : List ℕ) : Type 0 where
@@ -89,6 +91,7 @@ tooDear factors noted (estimate e) = false
 tooDear factors noted (job j) = false
 tooDear factors noted (wait w) = false
 tooDear factors noted (ownFactors fs) = false
+tooDear factors noted (defaultEstimate x) = false
 tooDear factors noted other = false
 
 pub record CanWeigh (factors : List ℕ) (i : Item) (noted : List ℕ) : Type 0 where

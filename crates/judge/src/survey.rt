@@ -10,9 +10,12 @@ use map::record::PlaceValue;
 use map::record::Read;
 use map::record::Size;
 ghost use mathlib.Core.Path.{_≡_};
+ghost use mathlib.Core.Bool.{not};
+ghost use lib.Dec.{eqb};
 ghost use Rattle.judge.specs.Marks.{Clear};
-ghost use Rattle.judge.specs.Survey.{fewPlaces, costNumber, measureNumber, laneNumber, estimateNumber, waitNumber, headless};
-ghost use Rattle.judge.specs.Survey.{firstTable, passed, withHead, withLane, withWait, withFactors, withJob, atEnd, Counted, Noted, Surveyed};
+ghost use Rattle.judge.specs.Survey.{fewPlaces, costNumber, measureNumber, laneNumber, valueNumber, estimateNumber, defaultNumber, waitNumber};
+ghost use Rattle.judge.specs.Survey.{headless, firstTable, firstDefault, passed, withHead, withLane, withWait, withFactors, withDefault, withJob};
+ghost use Rattle.judge.specs.Survey.{atEnd, Counted, Noted, Surveyed};
 
 pub struct Survey {
     // The least number that a record was given, NONE where none was.
@@ -26,6 +29,9 @@ pub struct Survey {
     // The records that state factors, and where the factors of the first begin, 0 where there is none.
     pub tables: usize,
     pub factors_at: usize,
+    // The records that state a default, and what the first states, 0 where there is none.
+    pub defaults: usize,
+    pub default: u32,
     pub jobs: usize,
     pub job_last: bool,
     // The last job.
@@ -72,6 +78,19 @@ fn lane_number(first: bool, places: usize, from: usize, to: usize, own: u32) -> 
     own
 }
 
+// What an estimate is given for its value, and for coming again: for its place, or as a default.
+fn value_number(value: u32, again: bool) -> u32
+    ensures { λ r. ⌜ r ≡ valueNumber again value ⌝ }
+{
+    if Map::ESTIMATE < value {
+        return number::LARGE_ESTIMATE;
+    }
+    if again {
+        return number::TWO_ESTIMATES;
+    }
+    numbers::NONE
+}
+
 fn estimate_number(first: bool, places: usize, e: PlaceValue, again: bool) -> u32
     ensures { λ r. ⌜ r ≡ estimateNumber first places again e ⌝ }
 {
@@ -81,13 +100,16 @@ fn estimate_number(first: bool, places: usize, e: PlaceValue, again: bool) -> u3
     if places <= e.place {
         return number::OUTSIDE_MAP;
     }
-    if Map::ESTIMATE < e.value {
-        return number::LARGE_ESTIMATE;
+    value_number(e.value, again)
+}
+
+fn default_number(first: bool, value: u32, again: bool) -> u32
+    ensures { λ r. ⌜ r ≡ defaultNumber first again value ⌝ }
+{
+    if first {
+        return number::WRONG_HEAD;
     }
-    if again {
-        return number::TWO_ESTIMATES;
-    }
-    numbers::NONE
+    value_number(value, again)
 }
 
 fn wait_number(first: bool, places: usize, place: usize) -> u32
@@ -183,6 +205,27 @@ fn with_factors(s: Survey, at: usize) -> Survey
     t
 }
 
+// The default in force, with one more that states this value.
+fn first_default(defaults: usize, noted: u32, value: u32) -> u32
+    ensures { λ r. ⌜ r ≡ firstDefault defaults noted value ⌝ }
+{
+    if defaults == 0 {
+        return value;
+    }
+    noted
+}
+
+fn with_default(s: Survey, value: u32) -> Survey
+    requires { ⌜ Counted s ⌝ }
+    ensures { λ t. ⌜ t ≡ withDefault (not (eqb (s .defaults) 0)) s value ⌝ }
+{
+    let again = s.defaults != 0;
+    let mut t = after(s, default_number(s.records == 0, value, again));
+    t.defaults += 1;
+    t.default = first_default(s.defaults, s.default, value);
+    t
+}
+
 fn with_job(s: Survey, job: JobFields) -> Survey
     requires { ⌜ Counted s ⌝ }
     ensures { λ t. ⌜ t ≡ withJob s job ⌝ }
@@ -210,6 +253,7 @@ fn with_item(s: Survey, item: Item, marks: &mut [u8; Map::PLACES]) -> Survey
         Item::Estimate(e) => with_estimate(s, e, marks),
         Item::Wait(w) => with_wait(s, w.place),
         Item::Factors(at) => with_factors(s, at),
+        Item::Default(value) => with_default(s, value),
         Item::Job(job) => with_job(s, job),
         Item::Misfit => after(s, number::WRONG_LENGTH),
         Item::Other => after(s, number::UNKNOWN_KIND),
@@ -241,6 +285,8 @@ pub fn of(input: &[u8], marks: &mut [u8; Map::PLACES]) -> Survey
         waits: 0,
         tables: 0,
         factors_at: 0,
+        defaults: 0,
+        default: 0,
         jobs: 0,
         job_last: false,
         job: JobFields {

@@ -59,7 +59,14 @@ fn judge_job(input: &[u8], s: Survey, marks: &[u8; Map::PLACES]) -> Judgement
         start: job.start,
         growth: GROWTH,
     };
-    Judgement::Accepted(Job::new(site, job.allowance, job.goals, job.goals_at, s.factors_at))
+    Judgement::Accepted(Job::new(
+        site,
+        job.allowance,
+        job.goals,
+        job.goals_at,
+        s.factors_at,
+        s.default,
+    ))
 }
 
 // Judges an input whose records have none of the numbers 1 to 9, 20 and 22, and whose factors these are.

@@ -77,6 +77,7 @@ fn too_dear(item: Item, factors: &[u32; Map::CLASS + 1], noted: &[u32; Map::PLAC
         | Item::Estimate(_)
         | Item::Wait(_)
         | Item::Factors(_)
+        | Item::Default(_)
         | Item::Job(_)
         | Item::Misfit
         | Item::Other => false,

@@ -12,9 +12,9 @@ use borrow.Author.Tests.{eq-eqb, ne-eqb, eqb-true, eqb-false, ltb-true, ltb-fals
 use Rattle.map.specs.declared.record as declared
 use Rattle.map.specs.declared.record.Record.{Record}
 use Rattle.map.specs.declared.record.Item.{Item}
-use Rattle.map.specs.declared.record.Item.the-variants.{Head, Lane, Measured, Estimate, Wait, Factors, Job, Misfit, Other}
+use Rattle.map.specs.declared.record.Item.the-variants.{Head, Lane, Measured, Estimate, Wait, Factors, Default, Job, Misfit, Other}
 use Rattle.map.specs.Records.{recordIn}
-use Rattle.map.specs.Items.{sizeAt, estimateAt, waitBodyAt, jobAt, isMisfit, laneMeant, measuredMeant, jobOf, meant, startBy, endBy}
+use Rattle.map.specs.Items.{sizeAt, estimateBodyAt, waitBodyAt, jobAt, isMisfit, laneMeant, measuredMeant, jobOf, meant, startBy, endBy}
 use Rattle.map.specs.Items.{LiesIn, FitsIn, Says}
 use Rattle.map.proofs.Parts.{u16-drop, u32-drop, u16-part, u32-part, u16s-part}
 use Rattle.model.specs.Bytes.{u16, u32}
@@ -22,8 +22,8 @@ use Rattle.model.specs.Framing as framing
 use Rattle.model.specs.Items as model
 use Rattle.model.proofs.Bytes.{u16s-length}
 use Rattle.model.proofs.Lists.{neither, both}
-use Rattle.model.proofs.Items.{KindOf, is-head, is-lane, is-measured, is-estimate, is-wait, is-factors, is-job, is-other, kind-of}
-use Rattle.model.proofs.Items.{head-item, lane-item, measured-item, estimate-item, wait-item, factors-item, job-item, other-item}
+use Rattle.model.proofs.Items.{KindOf, is-head, is-lane, is-measured, is-estimate, is-wait, is-factors, is-default, is-job, is-other, kind-of}
+use Rattle.model.proofs.Items.{head-item, lane-item, measured-item, estimate-item, wait-item, factors-item, default-item, job-item, other-item}
 
 -- the fields of a body that begins at byte `at`, in the input
 module _ (input : List ℕ) (at : ℕ) where
@@ -47,8 +47,8 @@ module _ (input : List ℕ) (at : ℕ) where
         u16-drop at input 6 (at + 6) refl,
       )
 
-  pub estimate-at : estimateAt input at ≡ record { place = u16 input (at + 0); value = u32 input (at + 2) }
-  unfolding estimateAt model.estimateOf
+  pub estimate-at : estimateBodyAt input at ≡ record { place = u16 input (at + 0); value = u32 input (at + 2) }
+  unfolding estimateBodyAt model.estimateOf
   estimate-at = rw (u16-drop at input 0 (at + 0) refl, u32-drop at input 2 (at + 2) refl)
 
   pub wait-at : waitBodyAt input at ≡ record { place = u16 input (at + 0); value = u16 input (at + 2) }
@@ -75,15 +75,15 @@ both-are k kind n size e = let are = both (eqb k kind) (eqb n size) e in (eqb-tr
 not-both : (k kind n size : ℕ) → eqb k kind && eqb n size ≡ false → k ≡ kind → n ≢ size
 not-both k kind n size e p q = true≢false (rw (eq-eqb k kind p, eq-eqb n size q) at e)
 
--- the kinds from 1 to 7 are the papers'
+-- the kinds from 1 to 8 are the papers'
 first-kinds : (k : ℕ) → model.headKind ≤ k → k ≢ model.headKind → k ≢ model.arcKind → k ≢ model.estimateKind → model.jobKind ≤ k
 first-kinds k low a b c = omega (arith, a, b, c)
 
 later-kinds : (k : ℕ) → model.jobKind ≤ k → k ≢ model.jobKind → k ≢ model.measuredKind → model.waitKind ≤ k
 later-kinds k low a b = omega (arith, a, b)
 
-last-kinds : (k : ℕ) → model.waitKind ≤ k → k ≤ model.factorsKind → k ≢ model.waitKind → k ≢ model.factorsKind → ⊥
-last-kinds k low high a b = omega (arith, a, b)
+last-kinds : (k : ℕ) → model.waitKind ≤ k → k ≤ model.defaultKind → k ≢ model.waitKind → k ≢ model.factorsKind → k ≢ model.defaultKind → ⊥
+last-kinds k low high a b c = omega (arith, a, b, c)
 
 module _ (input : List ℕ) (r : Record) (lies : LiesIn input r) where
   abbrev whole : framing.Record
@@ -168,7 +168,7 @@ module _ (input : List ℕ) (r : Record) (lies : LiesIn input r) where
       fitting-says (Measured l) _ (measured-item whole kind ∙ ap model.lane (measured-body h ∙ sym is)) refl h refl refl (omega arith)
 
   -- an estimate of six
-  pub estimate-says : Fits model.estimateKind model.estimateBytes → Says input r (Estimate (estimateAt input (r .start)))
+  pub estimate-says : Fits model.estimateKind model.estimateBytes → Says input r (Estimate (estimateBodyAt input (r .start)))
   unfolding model.estimateOf model.bodyLength meant isMisfit startBy endBy
   estimate-says fits =
       let (kind, h) = both-are (r .kind) model.estimateKind len model.estimateBytes fits in
@@ -193,6 +193,14 @@ module _ (input : List ℕ) (r : Record) (lies : LiesIn input r) where
       let (kind, h) = both-are (r .kind) model.factorsKind len model.factorsBytes fits in
       let factors = u16s-part input (r .start) len 8 0 (r .start) (omega arith) (omega arith) in
       fitting-says (Factors _) _ (factors-item whole kind ∙ rw factors) refl h refl refl (omega arith)
+
+  -- a default of four
+  pub default-says : Fits model.defaultKind model.defaultBytes → Says input r (Default (u32 input (r .start)))
+  unfolding model.defaultOf model.bodyLength meant isMisfit startBy endBy
+  default-says fits =
+      let (kind, h) = both-are (r .kind) model.defaultKind len model.defaultBytes fits in
+      let value = u32-part input (r .start) len 0 (r .start) (omega arith) (omega arith) in
+      fitting-says (Default _) _ (default-item whole kind ∙ rw value) refl h refl refl (omega arith)
 
   -- a job of eight, and of two more for each goal
   module _ (kind : r .kind ≡ model.jobKind) where
@@ -241,27 +249,28 @@ module _ (input : List ℕ) (r : Record) (lies : LiesIn input r) where
 
   -- any other kind
   pub other-says : r .kind ≢ model.headKind → r .kind ≢ model.arcKind → r .kind ≢ model.estimateKind → r .kind ≢ model.jobKind
-      → r .kind ≢ model.measuredKind → r .kind ≢ model.waitKind → r .kind ≢ model.factorsKind → Says input r Other
+      → r .kind ≢ model.measuredKind → r .kind ≢ model.waitKind → r .kind ≢ model.factorsKind → r .kind ≢ model.defaultKind
+      → Says input r Other
   unfolding model.misfits model.bodyLength model.otherThan meant isMisfit startBy endBy
-  other-says a b c d e f g =
-      let is = other-item whole a b c d e f g in
+  other-says a b c d e f g h =
+      let is = other-item whole a b c d e f g h in
       record { misfit = rw is; item = λ e. is; begins = refl; ends = refl }
 
   abbrev outside : Bool
-  outside = ltb (r .kind) model.headKind || ltb model.factorsKind (r .kind)
+  outside = ltb (r .kind) model.headKind || ltb model.defaultKind (r .kind)
 
   pub outside-says : outside ≡ true → Says input r Other
-  outside-says out = other-says (apart refl) (apart refl) (apart refl) (apart refl) (apart refl) (apart refl) (apart refl)
+  outside-says out = other-says (apart refl) (apart refl) (apart refl) (apart refl) (apart refl) (apart refl) (apart refl) (apart refl)
     where
-      apart : {k : ℕ} → (ltb k model.headKind || ltb model.factorsKind k) ≡ false → r .kind ≢ k
+      apart : {k : ℕ} → (ltb k model.headKind || ltb model.defaultKind k) ≡ false → r .kind ≢ k
       apart inside is = true≢false (sym out ∙ rw is inside)
 
   -- a kind of fixed length, and another length than that
   pub none-fits : outside ≡ false → r .kind ≢ model.jobKind → FitsNot model.headKind model.headBytes → FitsNot model.arcKind model.arcBytes
       → FitsNot model.estimateKind model.estimateBytes → FitsNot model.measuredKind model.measuredBytes → FitsNot model.waitKind model.waitBytes
-      → FitsNot model.factorsKind model.factorsBytes → Says input r Misfit
+      → FitsNot model.factorsKind model.factorsBytes → FitsNot model.defaultKind model.defaultBytes → Says input r Misfit
   unfolding model.bodyLength model.chargeBytes model.laneOf model.measuredOf
-  none-fits inside no-job no-head no-lane no-estimate no-measured no-wait no-factors = go (kind-of whole)
+  none-fits inside no-job no-head no-lane no-estimate no-measured no-wait no-factors no-default = go (kind-of whole)
     where
       go : {i : model.Item} → KindOf whole i → Says input r Misfit
       go (is-head k) = misfit-says _ _ (head-item whole k) refl (not-both _ _ _ _ no-head k)
@@ -270,11 +279,12 @@ module _ (input : List ℕ) (r : Record) (lies : LiesIn input r) where
       go (is-estimate k) = misfit-says _ _ (estimate-item whole k) refl (not-both _ _ _ _ no-estimate k)
       go (is-wait k) = misfit-says _ _ (wait-item whole k) refl (not-both _ _ _ _ no-wait k)
       go (is-factors k) = misfit-says _ _ (factors-item whole k) refl (not-both _ _ _ _ no-factors k)
+      go (is-default k) = misfit-says _ _ (default-item whole k) refl (not-both _ _ _ _ no-default k)
       go (is-job k) = absurd (no-job k)
-      go (is-other a b c d e f g) =
+      go (is-other a b c d e f g h) =
           let range = neither (ltb (r .kind) model.headKind) _ inside in
           let low = first-kinds (r .kind) (ltb-false (r .kind) model.headKind (range .0)) a b c in
-          absurd (last-kinds (r .kind) (later-kinds (r .kind) low d e) (ltb-false model.factorsKind (r .kind) (range .1)) f g)
+          absurd (last-kinds (r .kind) (later-kinds (r .kind) low d e) (ltb-false model.defaultKind (r .kind) (range .1)) f g h)
 
 -- a record of a kind that fits has its length
 module _ (input : List ℕ) (r : Record) (can : FitsIn input r) where
@@ -303,6 +313,10 @@ module _ (input : List ℕ) (r : Record) (can : FitsIn input r) where
   pub wait-fits : r .kind ≡ model.waitKind → Fits input r (can .lies) model.waitKind model.waitBytes
   unfolding model.bodyLength
   wait-fits k = fitting _ _ _ (wait-item _ k) refl k
+
+  pub default-fits : r .kind ≡ model.defaultKind → Fits input r (can .lies) model.defaultKind model.defaultBytes
+  unfolding model.bodyLength
+  default-fits k = fitting _ _ _ (default-item _ k) refl k
 
   pub factors-fits : r .kind ≡ model.factorsKind → Fits input r (can .lies) model.factorsKind model.factorsBytes
   unfolding model.bodyLength

@@ -80,6 +80,7 @@ of-map input P alike also (variants.Measured l) p = p
 of-map input P alike also (variants.Estimate e) p = p
 of-map input P alike also (variants.Wait w) p = p
 of-map input P alike also (variants.Factors at) p = also _ _ p
+of-map input P alike also (variants.Default x) p = p
 of-map input P alike also (variants.Job j) p = alike _ _ p
 of-map input P alike also variants.Misfit p = p
 of-map input P alike also variants.Other p = p

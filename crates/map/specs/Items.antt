@@ -7,7 +7,7 @@ use lib.Dec.{ltb, eqb}
 use lib.ListN.{length, drop}
 use Rattle.map.specs.declared.record as declared
 use Rattle.map.specs.declared.record.Item.{Item}
-use Rattle.map.specs.declared.record.Item.the-variants.{Head, Lane, Measured, Estimate, Wait, Factors, Job, Misfit, Other}
+use Rattle.map.specs.declared.record.Item.the-variants.{Head, Lane, Measured, Estimate, Wait, Factors, Default, Job, Misfit, Other}
 use Rattle.map.specs.Records.{recordIn}
 use Rattle.model.specs.Bytes.{u16s}
 use Rattle.model.specs.Items as model
@@ -19,8 +19,8 @@ use Rattle.model.specs.Stated.{fixedFactors, costUnder}
 unfoldable pub sizeAt : List ℕ → ℕ → declared.Size.Size
 sizeAt input at = let s = model.headOf (drop at input) in record { places = s .places; arcs = s .arcs }
 
-unfoldable pub estimateAt : List ℕ → ℕ → declared.PlaceValue.PlaceValue
-estimateAt input at = let e = model.estimateOf (drop at input) in record { place = e .place; value = e .value }
+unfoldable pub estimateBodyAt : List ℕ → ℕ → declared.PlaceValue.PlaceValue
+estimateBodyAt input at = let e = model.estimateOf (drop at input) in record { place = e .place; value = e .value }
 
 unfoldable pub waitBodyAt : List ℕ → ℕ → declared.PlaceValue.PlaceValue
 waitBodyAt input at = let w = model.waitOf (drop at input) in record { place = w .place; value = w .value }
@@ -40,6 +40,7 @@ isMisfit (Measured l) = false
 isMisfit (Estimate e) = false
 isMisfit (Wait w) = false
 isMisfit (Factors at) = false
+isMisfit (Default x) = false
 isMisfit (Job j) = false
 isMisfit Misfit = true
 isMisfit Other = false
@@ -62,6 +63,7 @@ meant input (Measured l) = model.lane (measuredMeant l)
 meant input (Estimate e) = model.estimate (record { place = e .place; value = e .value })
 meant input (Wait w) = model.wait (record { place = w .place; value = w .value })
 meant input (Factors at) = model.ownFactors (u16s 8 input at)
+meant input (Default x) = model.defaultEstimate x
 meant input (Job j) = model.job (jobOf input j)
 meant input Misfit = model.other
 meant input Other = model.other
@@ -97,6 +99,7 @@ endBy r (Measured l) = r .start + model.measuredBytes
 endBy r (Estimate e) = r .start + model.estimateBytes
 endBy r (Wait w) = r .start + model.waitBytes
 endBy r (Factors at) = at + model.factorsBytes
+endBy r (Default x) = r .start + model.defaultBytes
 endBy r (Job j) = j .«goals_at» + 2 * j .goals
 endBy r Misfit = r .end
 endBy r Other = r .end
@@ -109,6 +112,7 @@ startBy r (Measured l) = r .start
 startBy r (Estimate e) = r .start
 startBy r (Wait w) = r .start
 startBy r (Factors at) = at
+startBy r (Default x) = r .start
 startBy r (Job j) = r .start
 startBy r Misfit = r .start
 startBy r Other = r .start

@@ -6,7 +6,7 @@ use lib.ListN.{length}
 use Rattle.map.specs.declared.Job.{Job}
 use Rattle.map.specs.Items.{InForce}
 use Rattle.model.specs.Bytes.{u16s}
-use Rattle.model.specs.Stated.{statedIn}
+use Rattle.model.specs.Stated.{statedIn, default}
 
 pub record States (input : List ℕ) (j : Job) : Type 0 where
   pub places : j .site .places ≡ statedIn input .size .places
@@ -17,3 +17,4 @@ pub record States (input : List ℕ) (j : Job) : Type 0 where
   pub goals-end : j .«goals_at» + 2 * j .goals ≡ length input
   pub goals : u16s (j .goals) input (j .«goals_at») ≡ statedIn input .job .goals
   pub factors : InForce input (j .«factors_at») (statedIn input .factors)
+  pub default : j .default ≡ default (statedIn input)

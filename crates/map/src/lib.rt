@@ -91,20 +91,28 @@ impl Site {
     }
 }
 
-// An accepted input: what a search is told of it, the allowance, its goals, `goals` numbers of 2 bytes from byte `goals_at` on, and where its own factors
-// begin, 0 where it has none.
+// An accepted input: what a search is told of it, the allowance, its goals, `goals` numbers of 2 bytes from byte `goals_at` on, where its own factors
+// begin, 0 where it has none, and the estimate of places that have none of their own.
 pub struct Job {
     pub site: Site,
     pub allowance: u32,
     pub goals: usize,
     pub goals_at: usize,
     pub factors_at: usize,
+    pub default: u32,
 }
 
 impl Job {
-    pub fn new(site: Site, allowance: u32, goals: usize, goals_at: usize, factors_at: usize) -> Self
+    pub fn new(
+        site: Site,
+        allowance: u32,
+        goals: usize,
+        goals_at: usize,
+        factors_at: usize,
+        default: u32,
+    ) -> Self
         ensures { λ r. ⌜ (r .site ≡ site) × (r .allowance ≡ allowance) × (r .goals ≡ goals) × (r .«goals_at» ≡ «goals_at»)
-            × (r .«factors_at» ≡ «factors_at») ⌝ }
+            × (r .«factors_at» ≡ «factors_at») × (r .default ≡ default) ⌝ }
     {
         Job {
             site,
@@ -112,6 +120,7 @@ impl Job {
             goals,
             goals_at,
             factors_at,
+            default,
         }
     }
 }

@@ -7,7 +7,7 @@ ghost use Rattle.model.specs.Items.{headBytes, arcBytes, estimateBytes, measure
 ghost use Rattle.model.specs.Bytes.{u16s};
 ghost use Rattle.model.specs.Stated.{costUnder};
 ghost use Rattle.map.specs.Records.{readAt};
-ghost use Rattle.map.specs.Items.{sizeAt, laneMeant, measuredMeant, estimateAt, waitBodyAt, jobAt, tableAt, TableLies, Priced};
+ghost use Rattle.map.specs.Items.{sizeAt, laneMeant, measuredMeant, estimateBodyAt, waitBodyAt, jobAt, tableAt, TableLies, Priced};
 ghost use Rattle.map.specs.Items.{LiesIn, FitsIn, Says, EndsBy};
 
 pub const HEAD_KIND: u16 = 1;
@@ -26,8 +26,11 @@ pub const WAIT_KIND: u16 = 6;
 // A map's own factors, which replace the fixed ones.
 pub const FACTORS_KIND: u16 = 7;
 
+// One estimate for all places that have none of their own.
+pub const DEFAULT_KIND: u16 = 8;
+
 // The papers' kinds are those from 1 on up to this one.
-const LAST_KIND: u16 = 7;
+const LAST_KIND: u16 = 8;
 
 // The bytes before a record's body: its length and its kind.
 pub const HEADER: usize = 4;
@@ -44,6 +47,8 @@ pub const MEASURED_BYTES: usize = 8;
 pub const WAIT_BYTES: usize = 4;
 
 pub const FACTORS_BYTES: usize = 16;
+
+pub const DEFAULT_BYTES: usize = 4;
 
 // Where the fields of a head stand in its body.
 const PLACES: usize = 0;
@@ -130,6 +135,8 @@ pub enum Item {
     Wait(PlaceValue),
     // The byte at which the factors begin.
     Factors(usize),
+    // An estimate for all places that have none of their own.
+    Default(u32),
     Job(JobFields),
     Misfit,
     Other,
@@ -193,7 +200,7 @@ fn measured_at(input: &[u8], at: usize) -> MeasuredLane
 
 fn estimate_at(input: &[u8], at: usize) -> PlaceValue
     requires { ⌜ at + estimateBytes ≤ length (now input) ⌝ }
-    ensures { λ r. ⌜ r ≡ estimateAt (now (input .entry)) at ⌝ }
+    ensures { λ r. ⌜ r ≡ estimateBodyAt (now (input .entry)) at ⌝ }
 {
     PlaceValue {
         place: area::index(area::u16_at(input, at + PLACE)),
@@ -258,14 +265,17 @@ pub fn item_of(input: &[u8], r: Record) -> Item
     if (r.kind == FACTORS_KIND) & (len == FACTORS_BYTES) {
         return Item::Factors(r.start);
     }
+    if (r.kind == DEFAULT_KIND) & (len == DEFAULT_BYTES) {
+        return Item::Default(area::u32_at(input, r.start));
+    }
     if (r.kind < HEAD_KIND) | (LAST_KIND < r.kind) {
         return Item::Other;
     }
     Item::Misfit
 }
 
-// The same of a record whose length is known to be that of its kind, so that it is not looked at again; but that of a wait and of factors is, since out
-// of kinds alone the compiler would make a table of jumps.
+// The same of a record whose length is known to be that of its kind, so that it is not looked at again; but that of a wait, of factors and of a default is,
+// since out of kinds alone the compiler would make a table of jumps.
 pub fn fitting_item(input: &[u8], r: Record) -> Item
     requires { ⌜ FitsIn (now input) r ⌝ }
     ensures { λ i. ⌜ Says (now (input .entry)) r i ⌝ }
@@ -291,6 +301,9 @@ pub fn fitting_item(input: &[u8], r: Record) -> Item
     }
     if (r.kind == FACTORS_KIND) & (len == FACTORS_BYTES) {
         return Item::Factors(r.start);
+    }
+    if (r.kind == DEFAULT_KIND) & (len == DEFAULT_BYTES) {
+        return Item::Default(area::u32_at(input, r.start));
     }
     Item::Other
 }
@@ -340,6 +353,11 @@ pub fn end_of(r: Record, item: Item) -> usize
         Item::Measured(_) => r.start + MEASURED_BYTES,
         Item::Estimate(_) => r.start + ESTIMATE_BYTES,
         Item::Wait(_) => r.start + WAIT_BYTES,
-        Item::Head(_) | Item::Factors(_) | Item::Job(_) | Item::Misfit | Item::Other => r.end,
+        Item::Head(_)
+        | Item::Factors(_)
+        | Item::Default(_)
+        | Item::Job(_)
+        | Item::Misfit
+        | Item::Other => r.end,
     }
 }

@@ -13,13 +13,13 @@ use Rattle.model.specs.Bytes.{put16}
 use Rattle.model.specs.Framing.{putRecord}
 use Rattle.model.specs.Limits.{maxPlaces}
 use Rattle.model.specs.Items.{estimateKind, waitKind}
-use Rattle.model.specs.Jobs.{putHead, putTable, putLane}
+use Rattle.model.specs.Jobs.{putHead, putTable, putSomeDefault, putLane}
 use Rattle.map.specs.declared.Job.{Job}
 use Rattle.map.specs.Items.{tableAt}
 use Rattle.layout.specs.Regions.{waitsAt, endsAt, estimatesAt, goalsAt, arcsAt}
 use Rattle.sort.specs.Keys.{keysOf, keyFrom}
 use Rattle.lane_rows.specs.Keys.{laneIn}
-use Rattle.map_records.specs.Puts.{Put, Fits, putLanes, putNonzero, putByPlace, putJobOf, mapText, Puttable}
+use Rattle.map_records.specs.Puts.{Put, Fits, putLanes, putUnless, putByPlace, putJobOf, mapText, Puttable}
 use Rattle.map_records.proofs.PutRecords.{put-none}
 
 -- bytes put directly after others are put with them
@@ -79,28 +79,32 @@ no-lanes (x ∷ y ∷ words) h = absurd (omega arith)
 pub lanes-done : (words : List ℕ) (k : ℕ) → length words ≤ k + k + 1 → putLanes (drop (k + k) words) ≡ []
 lanes-done words k h = no-lanes (drop (k + k) words) (omega (arith, length-drop (k + k) words))
 
--- the numbers of places from v on
-pub by-place-from : (kind : ℕ) (words : List ℕ) (v : ℕ) → v < length words
-    → Begins (putByPlace kind v (drop v words)) (putNonzero kind v (getD words v 0)) (putByPlace kind (v + 1) (drop (v + 1) words))
-unfolding putByPlace
-by-place-from kind words v h = record { split = rw (drop-cons words v 0 h, add-one v) }
+-- the numbers of places from v on, but those that are d
+module _ (kind d : ℕ) (words : List ℕ) (v : ℕ) where
+  pub by-place-from : v < length words
+      → Begins (putByPlace kind d v (drop v words)) (putUnless kind d v (getD words v 0)) (putByPlace kind d (v + 1) (drop (v + 1) words))
+  unfolding putByPlace
+  by-place-from h = record { split = rw (drop-cons words v 0 h, add-one v) }
 
-pub by-place-done : (kind : ℕ) (words : List ℕ) (v : ℕ) → length words ≤ v → putByPlace kind v (drop v words) ≡ []
-unfolding putByPlace
-by-place-done kind words v h = rw (drop-of-length-le words h)
+  pub by-place-done : length words ≤ v → putByPlace kind d v (drop v words) ≡ []
+  unfolding putByPlace
+  by-place-done h = rw (drop-of-length-le words h)
 
 -- ---- A map
 
--- what is left after the waits, after the estimates, after the lanes, and after the head
+-- what is left after the table, after the waits, after the estimates, after the lanes, and after the head
+unfoldable pub afterTable : List ℕ → Job → List ℕ → List ℕ
+afterTable input j w = putSomeDefault (j .default) ++ putJobOf input j
+
 unfoldable pub afterWaits : List ℕ → Job → List ℕ → List ℕ
-afterWaits input j w = putTable (tableAt input (j .«factors_at»)) ++ putJobOf input j
+afterWaits input j w = putTable (tableAt input (j .«factors_at»)) ++ afterTable input j w
 
 unfoldable pub afterEstimates : List ℕ → Job → List ℕ → List ℕ
-afterEstimates input j w = putByPlace waitKind 0 (part (waitsAt (j .site .places)) (endsAt (j .site .places)) w) ++ afterWaits input j w
+afterEstimates input j w = putByPlace waitKind 0 0 (part (waitsAt (j .site .places)) (endsAt (j .site .places)) w) ++ afterWaits input j w
 
 unfoldable pub afterLanes : List ℕ → Job → List ℕ → List ℕ
 afterLanes input j w =
-    putByPlace estimateKind 0 (part (estimatesAt (j .site .places)) (goalsAt (j .site .places)) w) ++ afterEstimates input j w
+    putByPlace estimateKind (j .default) 0 (part (estimatesAt (j .site .places)) (goalsAt (j .site .places)) w) ++ afterEstimates input j w
 
 unfoldable pub afterHead : List ℕ → Job → List ℕ → List ℕ
 afterHead input j w =
@@ -109,14 +113,12 @@ afterHead input j w =
 
 head-first : (input : List ℕ) (j : Job) (w : List ℕ)
     → Begins (mapText input j w) (putHead (j .site .places) (j .site .arcs)) (afterHead input j w)
-unfolding mapText afterHead afterLanes afterEstimates afterWaits
+unfolding mapText afterHead afterLanes afterEstimates afterWaits afterTable
 head-first input j w = record { split = simp append-assoc }
 
--- the table comes after the waits
-pub table-next : (input : List ℕ) (j : Job) (w : List ℕ)
-    → Begins (afterWaits input j w) (putTable (tableAt input (j .«factors_at»))) (putJobOf input j)
-unfolding afterWaits
-table-next input j w = record { split = refl }
+-- what stands first comes next
+pub first-next : (a rest : List ℕ) → Begins (a ++ rest) a rest
+first-next a rest = record { split = refl }
 
 -- what is put of a part of the words comes next
 pub part-next : (put : List ℕ → List ℕ) (w rest : List ℕ) {first last a e : ℕ} → first ≡ a → last ≡ e

@@ -1,4 +1,4 @@
--- Records put into the output area field after field: the head, a lane as its key says, a place's estimate or wait, the job. Assumes nothing.
+-- Records put into the output area field after field: head, lanes as their keys say, estimates and waits, default, job. Assumes nothing.
 use mathlib.Core.Path.{_≡_, refl, ap, _∙_}
 use mathlib.Core.Logic.{_≢_}
 use mathlib.Core.List.{List, [], _++_}
@@ -11,13 +11,13 @@ use borrow.Author.Tests.{eq-eqb, ne-eqb}
 use Rattle.area.proofs.Sets.{sets-then}
 use Rattle.model.specs.Bytes.{Bytes, u16s, put16, put32, put16s}
 use Rattle.model.specs.Framing.{putRecord}
-use Rattle.model.specs.Items.{arcKind, jobKind, measuredKind, waitKind, arcBytes, jobBytes, measuredBytes}
-use Rattle.model.specs.Jobs.{putArc, putMeasured, putEstimate, putWait, putJob, putCharged, putLane}
+use Rattle.model.specs.Items.{arcKind, jobKind, measuredKind, waitKind, defaultKind, arcBytes, jobBytes, measuredBytes, defaultBytes}
+use Rattle.model.specs.Jobs.{putArc, putMeasured, putEstimate, putWait, putDefault, putSomeDefault, putJob, putCharged, putLane}
 use Rattle.model.proofs.Bytes.{put16s-length, u16s-length, put16s-u16s}
 use Rattle.map.specs.declared.Job.{Job}
 use Rattle.sort.specs.Keys.{keyFrom, wordEnd}
 use Rattle.lane_rows.specs.Keys.{chargeIn, laneIn}
-use Rattle.map_records.specs.Puts.{Put, putValue, putNonzero, putJobOf, GoalsLast}
+use Rattle.map_records.specs.Puts.{Put, putValue, putUnless, putJobOf, GoalsLast}
 
 -- how long a job record is
 pub put-job-length : (start allowance : ℕ) (goals : List ℕ) → length (putJob start allowance goals) ≡ 4 + jobBytes + 2 * length goals
@@ -89,19 +89,40 @@ module _ (high low : ℕ) (below : low < wordEnd) where
   unfolding chargeIn putCharged
   measured-lane odd = lane-fields ∙ rw (ne-eqb (low / 32768 % 2) 0 odd)
 
--- a number of a place, by whether it is 0, and by the kind
-module _ (kind v x : ℕ) where
-  pub none-of-zero : x ≡ 0 → putNonzero kind v x ≡ []
-  unfolding putNonzero
-  none-of-zero zero = rw (eq-eqb x 0 zero)
+-- a number of a place, by whether it is d, which holds without a record, and by the kind
+module _ (kind d v x : ℕ) where
+  pub same-left-out : x ≡ d → (at : ℕ) (old : List ℕ) → Put (putUnless kind d v x) at old old at
+  unfolding putUnless
+  same-left-out same at old = rw (eq-eqb x d same) (put-none at old)
 
-  pub wait-of-nonzero : x ≢ 0 → kind ≡ waitKind → putNonzero kind v x ≡ putWait v x
-  unfolding putNonzero putValue
-  wait-of-nonzero some is = rw (ne-eqb x 0 some, eq-eqb kind waitKind is)
+  pub wait-of-other : x ≢ d → kind ≡ waitKind → putUnless kind d v x ≡ putWait v x
+  unfolding putUnless putValue
+  wait-of-other differs is = rw (ne-eqb x d differs, eq-eqb kind waitKind is)
 
-  pub estimate-of-nonzero : x ≢ 0 → kind ≢ waitKind → putNonzero kind v x ≡ putEstimate v x
-  unfolding putNonzero putValue
-  estimate-of-nonzero some other = rw (ne-eqb x 0 some, ne-eqb kind waitKind other)
+  pub estimate-of-other : x ≢ d → kind ≢ waitKind → putUnless kind d v x ≡ putEstimate v x
+  unfolding putUnless putValue
+  estimate-of-other differs other = rw (ne-eqb x d differs, ne-eqb kind waitKind other)
+
+-- ---- The default
+
+pub zero-left-out : (x : ℕ) → x ≡ 0 → (at : ℕ) (old : List ℕ) → Put (putSomeDefault x) at old old at
+unfolding putSomeDefault
+zero-left-out x zero at old = rw (eq-eqb x 0 zero) (put-none at old)
+
+-- one that is not 0
+module _ (x : ℕ) (some : x ≢ 0) where
+  default-text : putSomeDefault x ≡ putDefault x
+  unfolding putSomeDefault
+  default-text = rw (ne-eqb x 0 some)
+
+  pub default-length : length (putSomeDefault x) ≡ 4 + defaultBytes
+  unfolding putDefault putRecord put16 put32
+  default-length = ap length default-text
+
+  pub default-fields : (at : ℕ) (old : List ℕ) {s out : List ℕ} → s ≡ sets old at (header defaultBytes defaultKind)
+      → out ≡ sets s (at + 4) (put32 x) → Put (putSomeDefault x) at old out (at + (4 + defaultBytes))
+  unfolding putDefault putRecord put16 put32
+  default-fields at old e₁ e₂ = put-as default-text (sets-then old (header defaultBytes defaultKind) (put32 x) at (at + 4) refl e₁ e₂)
 
 -- ---- The job
 

@@ -9,7 +9,7 @@ use lib.Seq.{sets}
 use Rattle.model.specs.Bytes.{u16s}
 use Rattle.model.specs.Limits.{maxPlaces, maxArcs, maxGoals}
 use Rattle.model.specs.Items.{estimateKind, waitKind}
-use Rattle.model.specs.Jobs.{putHead, putEstimate, putWait, putTable, putJob, putLane}
+use Rattle.model.specs.Jobs.{putHead, putEstimate, putWait, putTable, putSomeDefault, putJob, putLane}
 use Rattle.map.specs.declared.Job.{Job}
 use Rattle.map.specs.Items.{tableAt, TableLies}
 use Rattle.area.specs.Part.{part}
@@ -34,14 +34,14 @@ putLanes words = flatMap putLane (map laneIn (keysOf words))
 unfoldable pub putValue : (kind v x : ℕ) → List ℕ
 putValue kind v x = cond (eqb kind waitKind) (putWait v x) (putEstimate v x)
 
--- where the number is not 0
-unfoldable pub putNonzero : (kind v x : ℕ) → List ℕ
-putNonzero kind v x = cond (eqb x 0) [] (putValue kind v x)
+-- where the number is not d, which holds without a record
+unfoldable pub putUnless : (kind d v x : ℕ) → List ℕ
+putUnless kind d v x = cond (eqb x d) [] (putValue kind v x)
 
 -- the numbers from place v on, one for each
-unfoldable pub putByPlace : (kind v : ℕ) → List ℕ → List ℕ
-putByPlace kind v [] = []
-putByPlace kind v (x ∷ xs) = putNonzero kind v x ++ putByPlace kind (v + 1) xs
+unfoldable pub putByPlace : (kind d v : ℕ) → List ℕ → List ℕ
+putByPlace kind d v [] = []
+putByPlace kind d v (x ∷ xs) = putUnless kind d v x ++ putByPlace kind d (v + 1) xs
 
 -- the job, whose goals are read from the input
 unfoldable pub putJobOf : List ℕ → Job → List ℕ
@@ -54,9 +54,10 @@ mapText input j w =
     let m = j .site .arcs in
     putHead n m
     ++ putLanes (part (arcsAt n) (arcsAt n + 2 * m) w)
-    ++ putByPlace estimateKind 0 (part (estimatesAt n) (goalsAt n) w)
-    ++ putByPlace waitKind 0 (part (waitsAt n) (endsAt n) w)
+    ++ putByPlace estimateKind (j .default) 0 (part (estimatesAt n) (goalsAt n) w)
+    ++ putByPlace waitKind 0 0 (part (waitsAt n) (endsAt n) w)
     ++ putTable (tableAt input (j .«factors_at»))
+    ++ putSomeDefault (j .default)
     ++ putJobOf input j
 
 -- the job's goals are the rest of the input, and few

@@ -8,13 +8,13 @@ ghost use Prim.Native.Nat.{_+_, _≤_};
 ghost use lib.ListN.{length};
 ghost use lib.Seq.{sets};
 ghost use Rattle.model.specs.Bytes.{put16 as bytes16};
-ghost use Rattle.model.specs.Jobs.{putHead, putArc, putMeasured, putEstimate, putWait, putTable, putLane};
+ghost use Rattle.model.specs.Jobs.{putHead, putArc, putMeasured, putEstimate, putWait, putTable, putSomeDefault, putLane};
 ghost use Rattle.model.specs.Limits.{maxPlaces, maxArcs};
 ghost use Rattle.model.specs.Lists.{sameNumbers};
 ghost use Rattle.map.specs.Items.{tableAt, TableLies};
 ghost use Rattle.sort.specs.Keys.{keyFrom};
 ghost use Rattle.lane_rows.specs.Keys.{laneIn};
-ghost use Rattle.map_records.specs.Puts.{Put, Fits, putLanes, putNonzero, putByPlace, putJobOf, mapText, GoalsLast, Puttable};
+ghost use Rattle.map_records.specs.Puts.{Put, Fits, putLanes, putUnless, putByPlace, putJobOf, mapText, GoalsLast, Puttable};
 
 // How long a record is, and what its first two fields say.
 const HEADER: usize = record::HEADER;
@@ -30,6 +30,8 @@ const ESTIMATE: usize = HEADER + record::ESTIMATE_BYTES;
 const WAIT: usize = HEADER + record::WAIT_BYTES;
 
 const FACTORS: usize = HEADER + record::FACTORS_BYTES;
+
+const DEFAULT: usize = HEADER + record::DEFAULT_BYTES;
 
 const JOB: usize = HEADER + record::GOALS;
 
@@ -137,12 +139,12 @@ fn put_wait(out: &mut [u8], at: usize, place: usize, value: u32)
     area::put16(out, at + 6, value);
 }
 
-// The number of a place, where it is not 0, as a record of this kind: an estimate, or a wait.
-fn put_nonzero(out: &mut [u8], at: usize, kind: u16, place: usize, value: u32) -> usize
-    requires { ⌜ (place ≤ maxPlaces) × Fits (putNonzero kind place value) at (now out) ⌝ }
-    ensures { λ r. ⌜ Put (putNonzero kind place value) at (now (out .entry)) (now (out .exit)) r ⌝ }
+// The number of a place, where it is not the one that holds without a record, as a record of this kind: an estimate, or a wait.
+fn put_unless(out: &mut [u8], at: usize, kind: u16, unless: u32, place: usize, value: u32) -> usize
+    requires { ⌜ (place ≤ maxPlaces) × Fits (putUnless kind unless place value) at (now out) ⌝ }
+    ensures { λ r. ⌜ Put (putUnless kind unless place value) at (now (out .entry)) (now (out .exit)) r ⌝ }
 {
-    if value == 0 {
+    if value == unless {
         return at;
     }
     if kind == record::WAIT_KIND {
@@ -154,14 +156,14 @@ fn put_nonzero(out: &mut [u8], at: usize, kind: u16, place: usize, value: u32) -
 }
 
 // The numbers of all places, which are the words in order.
-fn put_by_place(out: &mut [u8], start: usize, kind: u16, words: &[u32]) -> usize
-    requires { ⌜ (length (now words) ≤ maxPlaces) × Fits (putByPlace kind 0 (now words)) start (now out) ⌝ }
-    ensures { λ r. ⌜ Put (putByPlace kind 0 (now (words .entry))) start (now (out .entry)) (now (out .exit)) r ⌝ }
+fn put_by_place(out: &mut [u8], start: usize, kind: u16, unless: u32, words: &[u32]) -> usize
+    requires { ⌜ (length (now words) ≤ maxPlaces) × Fits (putByPlace kind unless 0 (now words)) start (now out) ⌝ }
+    ensures { λ r. ⌜ Put (putByPlace kind unless 0 (now (words .entry))) start (now (out .entry)) (now (out .exit)) r ⌝ }
 {
     let mut at = start;
     let mut v = 0;
     while v < words.len() {
-        at = put_nonzero(out, at, kind, v, words[v]);
+        at = put_unless(out, at, kind, unless, v, words[v]);
         v += 1;
     }
     at
@@ -197,6 +199,19 @@ fn put_table(out: &mut [u8], at: usize, input: &[u8], factors_at: usize) -> usiz
     at + FACTORS
 }
 
+// The default, where it is not 0, also where no place is left to it.
+fn put_default(out: &mut [u8], at: usize, value: u32) -> usize
+    requires { ⌜ Fits (putSomeDefault value) at (now out) ⌝ }
+    ensures { λ r. ⌜ Put (putSomeDefault value) at (now (out .entry)) (now (out .exit)) r ⌝ }
+{
+    if value == 0 {
+        return at;
+    }
+    put_header(out, at, record::DEFAULT_BYTES as u32, record::DEFAULT_KIND);
+    area::put32(out, at + HEADER, value);
+    at + DEFAULT
+}
+
 // The job; its goals are the rest of the input.
 fn put_job(out: &mut [u8], at: usize, input: &[u8], job: Job) -> usize
     requires { ⌜ GoalsLast (now input) job × Fits (putJobOf (now input) job) at (now out) ⌝ }
@@ -214,7 +229,8 @@ fn put_job(out: &mut [u8], at: usize, input: &[u8], job: Job) -> usize
     at + HEADER + body
 }
 
-// The map that the words hold: lanes in the order of their keys, estimates and waits by place; then its factors and the job.
+// The map that the words hold: lanes in the order of their keys, estimates and waits by place; then its factors, its default and the job. Where the word of an
+// estimate is the default, it has no record.
 pub fn put_map(out: &mut [u8], input: &[u8], job: Job, work: &[u32]) -> usize
     requires { ⌜ Puttable (now input) job (now work) (now out) ⌝ }
     ensures { λ r. ⌜ Put (mapText (now (input .entry)) job (now (work .entry))) 0 (now (out .entry)) (now (out .exit)) r ⌝ }
@@ -229,8 +245,15 @@ pub fn put_map(out: &mut [u8], input: &[u8], job: Job, work: &[u32]) -> usize
     let last = layout::goals_at(places);
     let waits = layout::waits_at(places);
     let ends = layout::ends_at(places);
-    let estimates_end = put_by_place(out, lanes_end, record::ESTIMATE_KIND, &work[first..last]);
-    let waits_end = put_by_place(out, estimates_end, record::WAIT_KIND, &work[waits..ends]);
+    let estimates_end = put_by_place(
+        out,
+        lanes_end,
+        record::ESTIMATE_KIND,
+        job.default,
+        &work[first..last],
+    );
+    let waits_end = put_by_place(out, estimates_end, record::WAIT_KIND, 0, &work[waits..ends]);
     let table_end = put_table(out, waits_end, input, job.factors_at);
-    put_job(out, table_end, input, job)
+    let default_end = put_default(out, table_end, job.default);
+    put_job(out, default_end, input, job)
 }

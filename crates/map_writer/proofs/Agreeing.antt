@@ -2,28 +2,28 @@
 -- form. Assumes nothing.
 use mathlib.Core.Path.{_≡_, refl, sym, ap, ap₂, _∙_}
 use mathlib.Core.Logic.{_↔_}
-use mathlib.Core.Bool.{Bool, true, false≢true}
+use mathlib.Core.Bool.{Bool, true, cond, false≢true}
 use mathlib.Core.List.{List, [], _∷_, map, List·Memᴰ, List·Memᴰ·head, List·Memᴰ·tail}
 use Prim.Native.Nat.{ℕ, _+_, _≤_, _<_}
 use native.Mathlib.Omega.{arith}
 use lib.Dec.{eqb}
 use lib.ListN.{length}
 use borrow.Author.Tests.{eqb-true, eq-eqb}
-use Rattle.model.specs.Lists.{filter}
+use Rattle.model.specs.Lists.{filter, member}
 use Rattle.model.specs.Limits.{maxPlaces}
 use Rattle.model.specs.Items.{Charge, flat, measured, Lane}
-use Rattle.model.specs.Stated.{Stated, lookup, waitAt}
+use Rattle.model.specs.Stated.{Stated, lookup, default, estimateAt, waitAt}
 use Rattle.model.proofs.Lists.{both, filter-member, filter-all}
 use Rattle.load.specs.Load.{Fit}
 use Rattle.sort.specs.Sorting.{sortBy, oneIf}
 use Rattle.sort.proofs.SortLaws.{filter-cons, sort-filter, sort-member}
 use Rattle.sort.proofs.SortedNumbers.{same-sorts}
 use Rattle.map_writer.specs.Order.{noLater}
-use Rattle.map_writer.specs.Canonical.{canonical}
+use Rattle.map_writer.specs.Canonical.{ownEstimates, someDefault, canonical}
 use Rattle.map_writer.specs.Agree.{sameCharge, sameLane, copies, Agree}
 use Rattle.lane_rows.specs.Keys.{keyOf, laneIn}
 use Rattle.map_writer.proofs.KeyLaws.{keys-back, sorted-keys}
-use Rattle.map_writer.proofs.PlaceValues.{by-place-same, ValuesInside, canonical-estimate, canonical-wait}
+use Rattle.map_writer.proofs.PlaceValues.{by-place-same, ValuesInside, own-known, canonical-default, canonical-estimate, canonical-wait}
 
 -- ---- the test of equality
 same-charge : (c d : Charge) → sameCharge c d ≡ true → c ≡ d
@@ -129,7 +129,8 @@ agree-back s t a =
     record {
       places = sym (a .places);
       lanes = λ l. sym (a .lanes l);
-      estimates = λ v. sym (a .estimates v);
+      estimates = λ v l. sym (a .estimates v (omega (arith, a .places)));
+      default = sym (a .default);
       waits = λ v. sym (a .waits v);
       factors = sym (a .factors);
       job = sym (a .job);
@@ -140,7 +141,8 @@ agree-then s t u a b =
     record {
       places = a .places ∙ b .places;
       lanes = λ l. a .lanes l ∙ b .lanes l;
-      estimates = λ v. a .estimates v ∙ b .estimates v;
+      estimates = λ v l. a .estimates v l ∙ b .estimates v (omega (arith, a .places));
+      default = a .default ∙ b .default;
       waits = λ v. a .waits v ∙ b .waits v;
       factors = a .factors ∙ b .factors;
       job = a .job ∙ b .job;
@@ -152,7 +154,8 @@ canonical-agrees s inside =
     record {
       places = refl;
       lanes = λ l. sym (sort-filter (noLater (s .factors)) (sameLane l) (s .lanes));
-      estimates = λ v. sym (canonical-estimate s inside v);
+      estimates = λ v l. sym (canonical-estimate s inside v);
+      default = sym (canonical-default s);
       waits = λ v. sym (canonical-wait s inside v);
       factors = refl;
       job = refl;
@@ -160,26 +163,30 @@ canonical-agrees s inside =
 
 -- what a canonical form depends on
 canonical-same : (s t : Stated) → s .size ≡ t .size → sortBy (noLater (s .factors)) (s .lanes) ≡ sortBy (noLater (t .factors)) (t .lanes)
-    → s .factors ≡ t .factors → s .growth ≡ t .growth → s .job ≡ t .job
-    → ((v : ℕ) → lookup 0 (s .estimates) v ≡ lookup 0 (t .estimates) v) → ((v : ℕ) → waitAt s v ≡ waitAt t v) → canonical s ≡ canonical t
+    → s .factors ≡ t .factors → s .growth ≡ t .growth → s .job ≡ t .job → default s ≡ default t
+    → ((v : ℕ) → v < s .size .places → estimateAt s v ≡ estimateAt t v) → ((v : ℕ) → waitAt s v ≡ waitAt t v) → canonical s ≡ canonical t
 unfolding canonical waitAt
-canonical-same s t size lanes factors growth job estimates waits i =
+canonical-same s t size lanes factors growth job given estimates waits i =
     record {
       size = size i;
       lanes = lanes i;
-      estimates = by-place-same _ _ (s .estimates) (t .estimates) (λ j. size j .places) estimates i;
-      waits = by-place-same _ _ (s .waits) (t .waits) (λ j. size j .places) waits i;
+      estimates = by-place-same _ _ _ _ (ownEstimates s) (ownEstimates t) given (λ j. size j .places) own i;
+      defaults = someDefault (given i);
+      waits = by-place-same 0 0 _ _ (s .waits) (t .waits) refl (λ j. size j .places) (λ v l. waits v) i;
       factors = factors i;
       growth = growth i;
       job = job i;
     }
+  where
+    own : (v : ℕ) → v < s .size .places → lookup (default s) (ownEstimates s) v ≡ lookup (default t) (ownEstimates t) v
+    own v l = own-known s v ∙ (λ j. cond (member v (job j .goals)) (given j) (estimates v l j)) ∙ sym (own-known t v)
 
 pub agree-canonical : (s t : Stated) → s .growth ≡ t .growth
     → s .size .arcs ≡ length (s .lanes) → t .size .arcs ≡ length (t .lanes) → s .size .places ≤ maxPlaces
     → ((l : Lane) → List·Memᴰ l (s .lanes) → Fit (s .size .places) (s .factors) l)
     → ((l : Lane) → List·Memᴰ l (t .lanes) → Fit (t .size .places) (t .factors) l)
     → Agree s t → canonical s ≡ canonical t
-agree-canonical s t growth arcs arcs' few fits fits' a = canonical-same s t size lanes factors growth (a .job) (a .estimates) (a .waits)
+agree-canonical s t growth arcs arcs' few fits fits' a = canonical-same s t size lanes factors growth (a .job) (a .default) (a .estimates) (a .waits)
   where
     factors : s .factors ≡ t .factors
     factors = a .factors

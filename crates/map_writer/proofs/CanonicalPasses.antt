@@ -1,27 +1,29 @@
 -- The canonical form of what passes the conditions passes them too, and fits in the bytes of its records. Assumes nothing.
-use mathlib.Core.Path.{_≡_}
-use mathlib.Core.Bool.{Bool, false, _||_}
-use mathlib.Core.List.{List, List·Memᴰ}
+use mathlib.Core.Path.{_≡_, refl, sym, _∙_}
+use mathlib.Core.Bool.{Bool, false, _||_, true≢false}
+use mathlib.Core.List.{List, [], _∷_, headD, List·Memᴰ, List·Memᴰ·head}
 use Prim.Native.Nat.{ℕ, _^_, _≤_, _<_}
 use native.Mathlib.Omega.{arith}
-use lib.Dec.{ltb, leb}
+use lib.Dec.{ltb, leb, eqb}
 use lib.ListN.{length}
 use borrow.Author.Tests.{ltb-false, leb-false, le-ltb, lt-leb, eqb-true, not-false}
 use Rattle.model.specs.Lists.{any, repeats}
 use Rattle.model.specs.Limits.{maxPlaces, maxArcs, maxCost, maxEstimate, maxGoals}
 use Rattle.model.specs.Items.{Charge, flat, measured, Lane, PlaceValue}
-use Rattle.model.specs.Stated.{Stated, IsTable, lookup, costUnder, laneCost, arcOf}
+use Rattle.model.specs.Stated.{Stated, IsTable, lookup, default, costUnder, laneCost, arcOf}
 use Rattle.model.specs.Refusals.{wrongSize, placesIn, namesOutside, outsideMap, freeArc, largeEstimate, twoEstimates, mismeasured, wrongMeasure}
 use Rattle.model.specs.Refusals.{wrongWait, jobOutsideMap, wrongGoals, goalEstimate}
-use Rattle.model.proofs.Lists.{neither, any-false}
+use Rattle.model.proofs.Lists.{neither, any-false, member-true}
 use Rattle.model.proofs.Tests.{any-none, or-none}
 use Rattle.model.proofs.Charges.{length-below, class-below}
-use Rattle.model.proofs.Acceptance.{lookup-below}
+use Rattle.model.proofs.Acceptance.{small-estimate, small-default}
+use Rattle.model.proofs.Lookups.{lookup-below, lookup-absent}
 use Rattle.sort.specs.Sorting.{sortBy}
 use Rattle.sort.proofs.SortLaws.{sort-member, sort-length}
 use Rattle.map_writer.specs.Order.{noLater}
-use Rattle.map_writer.specs.Canonical.{nonzeroByPlace, canonical}
-use Rattle.map_writer.proofs.PlaceValues.{by-place-member, by-place-single, Inside, ValuesInside, canonical-estimate, canonical-arc}
+use Rattle.map_writer.specs.Canonical.{othersByPlace, ownEstimates, someDefault, canonical}
+use Rattle.map_writer.proofs.AtMostOne.{unless-few, unless-member}
+use Rattle.map_writer.proofs.PlaceValues.{by-place-member, by-place-single, Inside, ValuesInside, own-member, canonical-own, canonical-arc}
 use Rattle.map_writer.proofs.WrittenRecords.{StorableCharge, Storable}
 
 -- no condition on what is stated holds
@@ -43,8 +45,8 @@ pub record Passing (s : Stated) : Type 0 where
 named-inside : (n : ℕ) (xs : List PlaceValue) → namesOutside n xs ≡ false → Inside n xs
 named-inside n xs none x i = leb-false n (x .place) (any-false _ xs none x i)
 
-by-place-inside : (n : ℕ) (xs : List PlaceValue) → namesOutside n (nonzeroByPlace n xs) ≡ false
-by-place-inside n xs = any-none _ (nonzeroByPlace n xs) λ x i. lt-leb n (x .place) (by-place-member n xs x i .0)
+by-place-inside : (d n : ℕ) (xs : List PlaceValue) → namesOutside n (othersByPlace d n xs) ≡ false
+by-place-inside d n xs = any-none _ (othersByPlace d n xs) λ x i. lt-leb n (x .place) (by-place-member d n xs x i .0)
 
 -- ---- what passing gives
 module _ (s : Stated) (p : Passing s) where
@@ -87,9 +89,9 @@ module _ (s : Stated) (p : Passing s) where
   unfolding laneCost arcOf
   lane-cheap l i = omega (arith, arc-cheap l i)
 
-  pub estimate-small : (v : ℕ) → lookup 0 (s .estimates) v ≤ maxEstimate
-  unfolding largeEstimate
-  estimate-small = lookup-below (s .estimates) maxEstimate λ e i. ltb-false maxEstimate (e .value) (any-false _ (s .estimates) (p .small) e i)
+  own-small : (v : ℕ) → lookup (default s) (ownEstimates s) v ≤ maxEstimate
+  own-small =
+      lookup-below (default s) (ownEstimates s) maxEstimate (small-default s (p .small)) λ e i. small-estimate s (p .small) e (own-member s e i .0)
 
   pub start-inside : s .job .start < s .size .places
   unfolding jobOutsideMap
@@ -121,37 +123,54 @@ module _ (s : Stated) (p : Passing s) where
   unfolding outsideMap canonical
   inside-map =
       let lanes = sorted-none _ (neither _ _ (neither _ _ (p .inside) .0) .0) in
-      let estimates = by-place-inside (s .size .places) (s .estimates) in
-      or-none _ _ (or-none (any _ (canonical s .lanes)) _ lanes estimates) (by-place-inside (s .size .places) (s .waits))
+      let estimates = by-place-inside (default s) (s .size .places) (ownEstimates s) in
+      or-none _ _ (or-none (any _ (canonical s .lanes)) _ lanes estimates) (by-place-inside 0 (s .size .places) (s .waits))
+
+  -- each of its estimates is that of its place
+  estimate-small : (e : PlaceValue) → List·Memᴰ e (canonical s .estimates) → e .value ≤ maxEstimate
+  unfolding canonical
+  estimate-small e i = rw (by-place-member (default s) (s .size .places) (ownEstimates s) e i .1) (own-small (e .place))
+
+  defaults-small : (x : ℕ) → List·Memᴰ x (canonical s .defaults) → x ≤ maxEstimate
+  unfolding canonical someDefault
+  defaults-small x i = rw (unless-member (default s) (eqb (default s) 0) x i) (small-default s (p .small))
 
   no-large-estimate : largeEstimate (canonical s) ≡ false
-  unfolding largeEstimate canonical
+  unfolding largeEstimate
   no-large-estimate =
-      any-none _ (canonical s .estimates)
-      λ e i. le-ltb maxEstimate (e .value) (rw (by-place-member (s .size .places) (s .estimates) e i .1) (estimate-small (e .place)))
+      or-none _ _ (any-none _ (canonical s .estimates) λ e i. le-ltb maxEstimate (e .value) (estimate-small e i))
+      (any-none _ (canonical s .defaults) λ x i. le-ltb maxEstimate x (defaults-small x i))
+
+  one-each : twoEstimates (canonical s) ≡ false
+  unfolding twoEstimates canonical someDefault
+  one-each =
+      or-none (repeats (placesIn (canonical s .estimates))) _ (by-place-single (default s) (s .size .places) (ownEstimates s))
+      (le-ltb 1 (length (canonical s .defaults)) (unless-few (default s) (eqb (default s) 0)))
 
   cheap-arcs : wrongWait (canonical s) ≡ false
   unfolding wrongWait canonical
   cheap-arcs =
-      or-none (repeats (placesIn (canonical s .waits))) _ (by-place-single (s .size .places) (s .waits))
+      or-none (repeats (placesIn (canonical s .waits))) _ (by-place-single 0 (s .size .places) (s .waits))
       (any-none _ (canonical s .lanes) λ l i.
       rw (canonical-arc s values-inside l) (le-ltb maxCost _ (arc-cheap l (sort-member (noLater (s .factors)) (s .lanes) l .0 i))))
 
   goals-zero : goalEstimate (canonical s) ≡ false
   unfolding goalEstimate canonical
   goals-zero =
-      any-none _ (s .job .goals)
-      λ g i. rw (canonical-estimate s values-inside g) (any-false _ (s .job .goals) (p .zero-goals) g i)
+      any-none _ (s .job .goals) λ g i.
+      let absent : (e : PlaceValue) → List·Memᴰ e (canonical s .estimates) → e .place ≡ g → ⊥
+      = λ e j is. true≢false (sym (member-true g (s .job .goals) .1 i) ∙ rw is at (canonical-own s e j)) in
+      rw (lookup-absent 0 (canonical s .estimates) g absent)
 
   pub canonical-passing : Passing (canonical s)
-  unfolding canonical freeArc twoEstimates wrongMeasure jobOutsideMap wrongGoals
+  unfolding canonical freeArc wrongMeasure jobOutsideMap wrongGoals
   canonical-passing =
       record {
         size = sorted-size;
         inside = inside-map;
         paid = sorted-none _ (p .paid);
         small = no-large-estimate;
-        single = by-place-single (s .size .places) (s .estimates);
+        single = one-each;
         in-measure = sorted-none _ (p .in-measure);
         table = p .table;
         waits = cheap-arcs;
@@ -185,11 +204,12 @@ module _ (s : Stated) (p : Passing s) where
               charge = charge-storable (l .charge) (lane-cheap l j) (any-false _ (s .lanes) (p .in-measure) l j);
             };
         estimates = λ e i.
-            let (place, value) = by-place-member (s .size .places) (s .estimates) e i in
-            record { place = omega (arith, few-places); value = omega (arith, estimate-small (e .place)) };
+            let (place, value) = by-place-member (default s) (s .size .places) (ownEstimates s) e i in
+            record { place = omega (arith, few-places); value = omega (arith, estimate-small e i) };
+        defaults = defaults-small;
         waits = λ w i.
-            let (place, value) = by-place-member (s .size .places) (s .waits) w i in
-            let below = lookup-below (s .waits) 65535 (λ x j. omega (arith, short x j)) (w .place) in
+            let (place, value) = by-place-member 0 (s .size .places) (s .waits) w i in
+            let below = lookup-below 0 (s .waits) 65535 (omega arith) (λ x j. omega (arith, short x j)) (w .place) in
             record { place = omega (arith, few-places); value = omega arith };
         factors = p .table;
         job =

@@ -1,6 +1,7 @@
 -- Laws of lanes as keys, of the canonical form and of its bytes, and the writer's promises.
 pub mod KeyLaws
 pub mod RowLaws
+pub mod AtMostOne
 pub mod PlaceValues
 pub mod Agreeing
 pub mod WrittenRecords

@@ -9,12 +9,12 @@ use Rattle.area.specs.Part.{part}
 use Rattle.area.proofs.Parts.{same-before, less-after, part-length}
 use Rattle.model.specs.Framing.{frame}
 use Rattle.model.specs.Sums.{sumBelow}
-use Rattle.model.specs.Stated.{Stated, statedIn}
+use Rattle.model.specs.Stated.{Stated, statedIn, lookup, default}
 use Rattle.model.proofs.Sums.{sum-within}
 use Rattle.map.specs.declared.Job.{Job}
-use Rattle.layout.specs.Regions.{waitsAt, estimatesAt, arcsAt}
+use Rattle.layout.specs.Regions.{waitsAt, estimatesAt, arcsAt, estimateWord}
 use Rattle.layout.specs.Map.{rowStart, rowEnd}
-use Rattle.load.specs.Load.{lanesFrom, countFrom, begins}
+use Rattle.load.specs.Load.{lanesFrom, countFrom, begins, atGoals}
 use Rattle.load.specs.Loaded.{Prepared}
 use Rattle.load.proofs.Sums.{begins-within}
 use Rattle.load.proofs.Known.{Known, few-places, lane-fits, sized}
@@ -22,11 +22,12 @@ use Rattle.sort.specs.Sorting.{sortBy}
 use Rattle.sort.proofs.Keys.{keys-length}
 use Rattle.sort.proofs.SortLaws.{sort-length}
 use Rattle.map_writer.specs.Order.{noLater}
-use Rattle.map_writer.specs.Canonical.{canonical}
+use Rattle.map_writer.specs.Canonical.{ownEstimates, canonical}
 use Rattle.lane_rows.specs.Keys.{keyOf, keysBetween, rowKeys}
 use Rattle.lane_rows.specs.Rows.{Placeable, AllPlaced, HasRows, sortedBelow, RowsSorted}
 use Rattle.map_writer.specs.Steps.{InOrder}
 use Rattle.map_writer.proofs.RowLaws.{sortedRows, rows-sorted}
+use Rattle.map_writer.proofs.PlaceValues.{own-lookup}
 
 -- what acceptance says of an input and its words
 module _ (input : List ℕ) (j : Job) (w₀ : List ℕ) (facts : Known input j (length w₀)) where
@@ -40,7 +41,12 @@ module _ (input : List ℕ) (j : Job) (w₀ : List ℕ) (facts : Known input j (
   m = length (s .lanes)
 
   -- the words w₁ are prepared
-  module _ (w₁ : List ℕ) (size₁ : length w₁ ≡ length w₀) (before : Prepared input n w₀ w₁) where
+  module _ (w₁ : List ℕ) (size₁ : length w₁ ≡ length w₀) (before : Prepared input n (j .default) w₀ w₁) where
+    -- the own estimate of each place, or the default, which goals have too
+    estimates-own : (v : ℕ) → v < n → estimateWord n w₁ v ≡ lookup (default s) (ownEstimates s) v
+    unfolding atGoals
+    estimates-own v l = before .estimates v l ∙ rw (facts .states .default) (sym (own-lookup s (default s) v))
+
     pub can-place : {f : List ℕ} → f ≡ s .factors → Placeable n f (frame input .records) w₁
     can-place said =
         record { sized = sized facts size₁; stated-factors = said; room = omega (arith, facts .room); starts = before .starts }
@@ -106,7 +112,7 @@ module _ (input : List ℕ) (j : Job) (w₀ : List ℕ) (facts : Known input j (
               estimates = λ v l.
                   same-before (arcsAt n) w₂ w (estimatesAt n + v) (sorted .front) (omega arith)
                   ∙ placed .estimates v l
-                  ∙ before .estimates v l;
+                  ∙ estimates-own v l;
               waits = λ v l.
                   same-before (arcsAt n) w₂ w (waitsAt n + v) (sorted .front) (omega arith)
                   ∙ placed .waits v l

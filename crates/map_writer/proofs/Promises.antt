@@ -60,8 +60,8 @@ pub record Rewrites (P R : Program) (c : Call) (r : Result) : Type 0 where
   -- it is no longer than the input, and is accepted where the input was
   pub shorter : length (written r) ≤ length (c .input)
   pub accepted : (words bytes : ℕ) → Writable (c .input) words bytes → Writable (written r) words bytes
-  -- "Reading the result gives the same N, arc records as a collection with repeats, estimates and job"; waits and the factors in force too, as
-  -- paper 5 has it: the writer's "agreement covers them"
+  -- "Reading the result gives the same N, arc records as a collection with repeats, estimates and job"; waits, the factors in force and the default
+  -- too, as paper 5 has it: the writer's "agreement covers them"
   pub agrees : Agree (statedIn (c .input)) (statedIn (written r))
   -- so writing twice is writing once
   pub again : (d : Call) (q : Result) → P d q → d .input ≡ written r → q .answer .number ≡ 0 → written q ≡ written r

@@ -1,9 +1,9 @@
 -- What is written as records is stated again by them, where its fields fit in their bytes. Assumes nothing.
 use mathlib.Core.Path.{_≡_, refl, sym, ap, ap₂, _∙_}
-use mathlib.Core.Bool.{Bool, true, false, cond, not}
+use mathlib.Core.Bool.{false, not}
 use mathlib.Core.List.{List, [], _∷_, _++_, map, headD, append-nil, List·Memᴰ, List·Memᴰ·head, List·Memᴰ·tail}
 use mathlib.Core.Option.{Option, none, some}
-use Prim.Native.Nat.{ℕ, zero, suc, _^_, _<_}
+use Prim.Native.Nat.{ℕ, zero, suc, _^_, _≤_, _<_}
 use native.Mathlib.Omega.{arith}
 use lib.Dec.{eqb}
 use lib.ListN.{length, getD}
@@ -11,18 +11,22 @@ use borrow.Author.Tests.{eq-eqb}
 use Rattle.model.specs.Lists.{any, filterMap, consIf, sameNumbers}
 use Rattle.model.specs.Bytes.{u16, u32, u16s, put16, put32, put16s}
 use Rattle.model.specs.Framing.{Record, Framed}
-use Rattle.model.specs.Items.{Size, Charge, flat, measured, Lane, PlaceValue, Job, Item, head, lane, estimate, job, wait, ownFactors}
+use Rattle.model.specs.Limits.{maxEstimate}
+use Rattle.model.specs.Items.{Size, Charge, flat, measured, Lane, PlaceValue, Job, Item, head, lane, estimate, job, wait, ownFactors, defaultEstimate}
 use Rattle.model.specs.Items.{headOf, laneOf, measuredOf, estimateOf, jobOf, waitOf, itemOf, items}
-use Rattle.model.specs.Items.{sizeIn, laneIn, estimateIn, jobIn, waitIn, factorsIn, factorsBytes, chargeBytes, bodyLength, otherThan, misfits}
+use Rattle.model.specs.Items.{sizeIn, laneIn, estimateIn, jobIn, waitIn, factorsIn, defaultIn}
+use Rattle.model.specs.Items.{factorsBytes, chargeBytes, bodyLength, otherThan, misfits}
 use Rattle.model.specs.Stated.{Stated, fixedFactors, IsTable, noJob, statedBy, stated, statedIn}
 use Rattle.model.specs.Refusals.{wrongLength}
 use Rattle.model.proofs.Bytes.{two-bytes, u16-put16, u32-put32, u16s-put16s}
 use Rattle.model.proofs.Lists.{same-numbers}
-use Rattle.model.proofs.OwnTables.{factors-read}
+use Rattle.model.proofs.Taken.{factors-read, default-read}
 use Rattle.model.proofs.Tests.{or-none}
 use Rattle.map_writer.specs.Canonical.{putStated}
+use Rattle.map_writer.proofs.AtMostOne.{unless-first}
 pub use Rattle.map_writer.proofs.WrittenRecords.{StorableCharge, StorableLane, StorableValue, StorableJob, Storable}
-pub use Rattle.map_writer.proofs.WrittenRecords.{headRecord, chargedRecord, laneRecord, estimateRecord, waitRecord, factorsRecord, jobRecord}
+pub use Rattle.map_writer.proofs.WrittenRecords.{headRecord, chargedRecord, laneRecord, estimateRecord, waitRecord, factorsRecord}
+pub use Rattle.map_writer.proofs.WrittenRecords.{defaultRecord, jobRecord}
 pub use Rattle.map_writer.proofs.WrittenRecords.{tablesOf, recordsOf}
 pub use Rattle.map_writer.proofs.WrittenRecords.{put-records, put-framed}
 use Rattle.map_writer.proofs.WrittenRecords.{tables-member, factors-length, jobFront, job-length}
@@ -59,6 +63,10 @@ table-read : (fs : List ℕ) → IsTable fs → itemOf (factorsRecord fs) ≡ ow
 unfolding factorsRecord itemOf
 table-read fs table = ap ownFactors (factors-read fs table)
 
+default-said : (x : ℕ) → x ≤ maxEstimate → itemOf (defaultRecord x) ≡ defaultEstimate x
+unfolding defaultRecord itemOf
+default-said x small = ap {B = Item} defaultEstimate (default-read x small)
+
 members-below : (gs : List ℕ) → ((g : ℕ) → List·Memᴰ g gs → g < 65536) → (i : ℕ) → getD gs i 0 < 65536
 members-below [] h i = omega arith
 members-below (g ∷ gs) h zero = h g (List·Memᴰ·head refl)
@@ -86,7 +94,8 @@ unfoldable pub itemsOf : Stated → List Item
 itemsOf t =
     head (t .size)
     ∷ (map lane (t .lanes)
-    ++ (map estimate (t .estimates) ++ (map wait (t .waits) ++ (map ownFactors (tablesOf (t .factors)) ++ (job (t .job) ∷ [])))))
+    ++ (map estimate (t .estimates)
+    ++ (map wait (t .waits) ++ (map ownFactors (tablesOf (t .factors)) ++ (map defaultEstimate (t .defaults) ++ (job (t .job) ∷ []))))))
 
 -- records that each say what g gives, before others that say `is`
 module _ {A : Type 0} (f : A → Record) (g : A → Item) where
@@ -105,7 +114,8 @@ items-said t ok =
     let last : items (jobRecord (t .job) ∷ []) ≡ job (t .job) ∷ [] = rw (job-read (t .job) (ok .job)) in
     let table-said : (fs : List ℕ) → List·Memᴰ fs (tablesOf (t .factors)) → itemOf (factorsRecord fs) ≡ ownFactors fs
     = λ fs i. table-read fs (rw (tables-member (t .factors) fs i) (ok .factors)) in
-    let tables = each-said factorsRecord ownFactors (tablesOf (t .factors)) table-said _ _ last in
+    let defaults = each-said defaultRecord defaultEstimate (t .defaults) (λ x i. default-said x (ok .defaults x i)) _ _ last in
+    let tables = each-said factorsRecord ownFactors (tablesOf (t .factors)) table-said _ _ defaults in
     let waits = each-said waitRecord wait (t .waits) (λ w i. wait-read w (ok .waits w i)) _ _ tables in
     let estimates = each-said estimateRecord estimate (t .estimates) (λ e i. estimate-read e (ok .estimates e i)) _ _ waits in
     let lanes = each-said laneRecord lane (t .lanes) (λ l i. lane-read l (ok .lanes l i)) _ _ estimates in
@@ -126,19 +136,16 @@ module _ {A : Type 0} (g : A → Item) (f : Item → Option A) (some-of : (x : A
 
 -- the table that is written, or the fixed one where none is, is the table
 table-back : (fs : List ℕ) → headD (tablesOf fs) fixedFactors ≡ fs
-unfolding tablesOf headD
-table-back fs = go (sameNumbers fs fixedFactors) refl
-  where
-    go : (same : Bool) → sameNumbers fs fixedFactors ≡ same → headD (cond same [] (fs ∷ [])) fixedFactors ≡ fs
-    go true e = sym (same-numbers fs fixedFactors .0 e)
-    go false e = refl
+unfolding tablesOf
+table-back fs = unless-first fs fixedFactors (sameNumbers fs fixedFactors) (same-numbers fs fixedFactors .0)
 
 items-stated : (t : Stated) → Storable t → statedBy (itemsOf t) ≡ t
-unfolding itemsOf statedBy filterMap consIf sizeIn laneIn estimateIn jobIn waitIn factorsIn headD
+unfolding itemsOf statedBy filterMap consIf sizeIn laneIn estimateIn jobIn waitIn factorsIn defaultIn headD
 items-stated t ok =
     let tables : List (List ℕ) = tablesOf (t .factors) in
     let last : List Item = job (t .job) ∷ [] in
-    let fs : List Item = map ownFactors tables ++ last in
+    let ds : List Item = map defaultEstimate (t .defaults) ++ last in
+    let fs : List Item = map ownFactors tables ++ ds in
     let ws : List Item = map wait (t .waits) ++ fs in
     let es : List Item = map estimate (t .estimates) ++ ws in
     let lanes : filterMap laneIn (map lane (t .lanes) ++ es) ≡ t .lanes
@@ -146,35 +153,49 @@ items-stated t ok =
     ∙ rw (
       none-taken estimate laneIn (λ e. refl) (t .estimates) ws,
       none-taken wait laneIn (λ w. refl) (t .waits) fs,
-      none-taken ownFactors laneIn (λ x. refl) tables last,
+      none-taken ownFactors laneIn (λ x. refl) tables ds,
+      none-taken defaultEstimate laneIn (λ x. refl) (t .defaults) last,
     ) (append-nil (t .lanes)) in
     let estimates : filterMap estimateIn (map lane (t .lanes) ++ es) ≡ t .estimates
     = none-taken lane estimateIn (λ l. refl) (t .lanes) es
     ∙ all-taken estimate estimateIn (λ e. refl) (t .estimates) ws
     ∙ rw (
       none-taken wait estimateIn (λ w. refl) (t .waits) fs,
-      none-taken ownFactors estimateIn (λ x. refl) tables last,
+      none-taken ownFactors estimateIn (λ x. refl) tables ds,
+      none-taken defaultEstimate estimateIn (λ x. refl) (t .defaults) last,
     ) (append-nil (t .estimates)) in
     let waits : filterMap waitIn (map lane (t .lanes) ++ es) ≡ t .waits
     = none-taken lane waitIn (λ l. refl) (t .lanes) es
     ∙ none-taken estimate waitIn (λ e. refl) (t .estimates) ws
     ∙ all-taken wait waitIn (λ w. refl) (t .waits) fs
-    ∙ rw (none-taken ownFactors waitIn (λ x. refl) tables last) (append-nil (t .waits)) in
+    ∙ rw (
+      none-taken ownFactors waitIn (λ x. refl) tables ds,
+      none-taken defaultEstimate waitIn (λ x. refl) (t .defaults) last,
+    ) (append-nil (t .waits)) in
     let factors : filterMap factorsIn (map lane (t .lanes) ++ es) ≡ tables
     = none-taken lane factorsIn (λ l. refl) (t .lanes) es
     ∙ none-taken estimate factorsIn (λ e. refl) (t .estimates) ws
     ∙ none-taken wait factorsIn (λ w. refl) (t .waits) fs
-    ∙ all-taken ownFactors factorsIn (λ x. refl) tables last
-    ∙ append-nil tables in
+    ∙ all-taken ownFactors factorsIn (λ x. refl) tables ds
+    ∙ rw (none-taken defaultEstimate factorsIn (λ x. refl) (t .defaults) last) (append-nil tables) in
+    let defaults : filterMap defaultIn (map lane (t .lanes) ++ es) ≡ t .defaults
+    = none-taken lane defaultIn (λ l. refl) (t .lanes) es
+    ∙ none-taken estimate defaultIn (λ e. refl) (t .estimates) ws
+    ∙ none-taken wait defaultIn (λ w. refl) (t .waits) fs
+    ∙ none-taken ownFactors defaultIn (λ x. refl) tables ds
+    ∙ all-taken defaultEstimate defaultIn (λ x. refl) (t .defaults) last
+    ∙ append-nil (t .defaults) in
     let jobs : filterMap jobIn (map lane (t .lanes) ++ es) ≡ t .job ∷ []
     = none-taken lane jobIn (λ l. refl) (t .lanes) es
     ∙ none-taken estimate jobIn (λ e. refl) (t .estimates) ws
     ∙ none-taken wait jobIn (λ w. refl) (t .waits) fs
-    ∙ none-taken ownFactors jobIn (λ x. refl) tables last in
+    ∙ none-taken ownFactors jobIn (λ x. refl) tables ds
+    ∙ none-taken defaultEstimate jobIn (λ x. refl) (t .defaults) last in
     λ i. record {
       size = t .size;
       lanes = lanes i;
       estimates = estimates i;
+      defaults = defaults i;
       waits = waits i;
       factors = (ap (λ (ts : List (List ℕ)). headD ts fixedFactors) factors ∙ table-back (t .factors)) i;
       growth = sym (ok .growth) i;
@@ -225,6 +246,10 @@ unfolding misfits bodyLength otherThan
 table-long fs table =
     rw (table-read fs table) (ap not (eq-eqb (length (factorsRecord fs .body)) factorsBytes (factors-length fs (table .eight))))
 
+default-long : (x : ℕ) → x ≤ maxEstimate → misfits (defaultRecord x) ≡ false
+unfolding misfits bodyLength otherThan defaultRecord put32
+default-long x small = rw (default-said x small)
+
 job-long : (j : Job) → StorableJob j → misfits (jobRecord j) ≡ false
 unfolding misfits bodyLength otherThan
 job-long j ok = rw (job-read j ok) (ap not (eq-eqb (length (jobRecord j .body)) _ (job-length j)))
@@ -235,7 +260,8 @@ lengths-right t ok =
     let job = or-none (misfits (jobRecord (t .job))) _ (job-long (t .job) (ok .job)) refl in
     let table-fits : (fs : List ℕ) → List·Memᴰ fs (tablesOf (t .factors)) → misfits (factorsRecord fs) ≡ false
     = λ fs i. table-long fs (rw (tables-member (t .factors) fs i) (ok .factors)) in
-    let tables = each-long factorsRecord (tablesOf (t .factors)) table-fits _ job in
+    let defaults = each-long defaultRecord (t .defaults) (λ x i. default-long x (ok .defaults x i)) _ job in
+    let tables = each-long factorsRecord (tablesOf (t .factors)) table-fits _ defaults in
     let waits = each-long waitRecord (t .waits) (λ w i. wait-long w (ok .waits w i)) _ tables in
     let estimates = each-long estimateRecord (t .estimates) (λ e i. estimate-long e (ok .estimates e i)) _ waits in
     let lanes = each-long laneRecord (t .lanes) (λ l i. lane-long l (ok .lanes l i)) _ estimates in

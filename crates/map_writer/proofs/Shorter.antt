@@ -11,21 +11,22 @@ use borrow.Author.Tests.{leb-true, ltb-false, eqb-true, not-false}
 use Rattle.model.specs.Lists.{any, consIf, filterMap, isGiven, sameNumbers}
 use Rattle.model.specs.Bytes.{put16, put32}
 use Rattle.model.specs.Framing.{Record, stop, push, frameUpTo, frame, putRecord}
-use Rattle.model.specs.Items.{Charge, flat, measured, Lane, Job, Item, head, lane, estimate, job, wait, ownFactors, other}
-use Rattle.model.specs.Items.{headBytes, estimateBytes, jobBytes, waitBytes, factorsBytes, chargeBytes}
-use Rattle.model.specs.Items.{itemOf, bodyLength, otherThan, misfits, items, sizeIn, laneIn, estimateIn, jobIn, waitIn, factorsIn}
-use Rattle.model.specs.Stated.{Stated, fixedFactors, noJob, statedBy, stated, statedIn}
+use Rattle.model.specs.Items.{Charge, flat, measured, Lane, Job, Item, head, lane, estimate, job, wait, ownFactors, defaultEstimate, other}
+use Rattle.model.specs.Items.{headBytes, estimateBytes, jobBytes, waitBytes, factorsBytes, defaultBytes, chargeBytes}
+use Rattle.model.specs.Items.{itemOf, bodyLength, otherThan, misfits, items, sizeIn, laneIn, estimateIn, jobIn, waitIn, factorsIn, defaultIn}
+use Rattle.model.specs.Stated.{Stated, fixedFactors, noJob, statedBy, stated, statedIn, default}
 use Rattle.model.specs.Refusals.{unknownKind, wrongLength, beginsWithHead, wrongHead, endsWithJob, wrongJob}
 use Rattle.model.specs.Refusals.{formRows, sizeRows, mapRows, factorRows, costRows, jobRows, inputRows, holdsAt, inputRefusal}
-use Rattle.model.specs.Jobs.{putHead, putArc, putMeasured, putEstimate, putWait, putFactors, putTable, putJob, putCharged, putLane}
+use Rattle.model.specs.Jobs.{putHead, putArc, putMeasured, putEstimate, putWait, putFactors, putTable, putDefault, putJob, putCharged, putLane}
 use Rattle.model.proofs.Lists.{neither}
 use Rattle.model.proofs.Bytes.{put16s-length}
 use Rattle.model.proofs.Rows.{row-fails, input-numbered}
 use Rattle.sort.proofs.SortLaws.{sort-total}
 use Rattle.map_writer.specs.Order.{noLater}
-use Rattle.map_writer.specs.Canonical.{canonical, putStated, write}
-use Rattle.map_writer.proofs.PlaceValues.{by-place-fewer}
-use Rattle.map_writer.proofs.WrittenRecords.{jobRecord, tablesOf, tables-few, putEstimateOf, putWaitOf, job-length}
+use Rattle.map_writer.specs.Canonical.{ownEstimates, someDefault, canonical, putStated, write}
+use Rattle.map_writer.proofs.AtMostOne.{unless-recorded}
+use Rattle.map_writer.proofs.PlaceValues.{by-place-fewer, own-fewer}
+use Rattle.map_writer.proofs.WrittenRecords.{jobRecord, tablesOf, putEstimateOf, putWaitOf, job-length}
 use Rattle.map_writer.proofs.WrittenAccepted.{input-passing}
 
 -- ---- Records
@@ -75,18 +76,18 @@ unfoldable jobsBytes : List Job → ℕ
 jobsBytes [] = 0
 jobsBytes (j ∷ js) = 4 + jobBytes + 2 * length (j .goals) + jobsBytes js
 
--- the bytes of the records of a head, lanes, estimates, waits, a table that is not the fixed one and a job
+-- the bytes of the records of a head, lanes, estimates, waits, a table that is not the fixed one, defaults and a job
 unfoldable pub statedBytes : Stated → ℕ
 statedBytes s =
     4 + headBytes + laneBytes (s .lanes) + (4 + estimateBytes) * length (s .estimates) + (4 + waitBytes) * length (s .waits)
-    + (4 + factorsBytes) * length (tablesOf (s .factors)) + (4 + jobBytes + 2 * length (s .job .goals))
+    + (4 + factorsBytes) * length (tablesOf (s .factors)) + (4 + defaultBytes) * length (s .defaults) + (4 + jobBytes + 2 * length (s .job .goals))
 
 -- the bytes of items by their kinds
 abbrev kindBytes : List Item → ℕ
 kindBytes is =
     (4 + headBytes) * length (filterMap sizeIn is) + laneBytes (filterMap laneIn is)
     + (4 + estimateBytes) * length (filterMap estimateIn is) + (4 + waitBytes) * length (filterMap waitIn is)
-    + (4 + factorsBytes) * length (filterMap factorsIn is) + jobsBytes (filterMap jobIn is)
+    + (4 + factorsBytes) * length (filterMap factorsIn is) + (4 + defaultBytes) * length (filterMap defaultIn is) + jobsBytes (filterMap jobIn is)
 
 no-other : (n m : ℕ) → not (eqb n m) ≡ false → n ≡ m
 no-other n m e = eqb-true n m (not-false (eqb n m) e)
@@ -94,13 +95,14 @@ no-other n m e = eqb-true n m (not-false (eqb n m) e)
 -- an item whose kind has a length adds it to those of its kind
 item-adds : (i : Item) (n : ℕ) (is : List Item) → isGiven (bodyLength i) ≡ true → otherThan (bodyLength i) n ≡ false
     → kindBytes (i ∷ is) ≡ 4 + n + kindBytes is
-unfolding bodyLength otherThan isGiven filterMap consIf sizeIn laneIn estimateIn jobIn waitIn factorsIn laneBytes jobsBytes
+unfolding bodyLength otherThan isGiven filterMap consIf sizeIn laneIn estimateIn jobIn waitIn factorsIn defaultIn laneBytes jobsBytes
 item-adds (head s) n is g e = omega (arith, no-other n headBytes e)
 item-adds (lane l) n is g e = omega (arith, no-other n (chargeBytes (l .charge)) e)
 item-adds (estimate x) n is g e = omega (arith, no-other n estimateBytes e)
 item-adds (job j) n is g e = omega (arith, no-other n (jobBytes + 2 * length (j .goals)) e)
 item-adds (wait w) n is g e = omega (arith, no-other n waitBytes e)
 item-adds (ownFactors fs) n is g e = omega (arith, no-other n factorsBytes e)
+item-adds (defaultEstimate x) n is g e = omega (arith, no-other n defaultBytes e)
 item-adds other n is g e = absurd (false≢true g)
 
 -- records of known kinds that fit have as many bytes as what they say
@@ -123,6 +125,7 @@ first-head (estimate x ∷ is) e = absurd (false≢true e)
 first-head (job j ∷ is) e = absurd (false≢true e)
 first-head (wait w ∷ is) e = absurd (false≢true e)
 first-head (ownFactors fs ∷ is) e = absurd (false≢true e)
+first-head (defaultEstimate x ∷ is) e = absurd (false≢true e)
 first-head (other ∷ is) e = absurd (false≢true e)
 
 one-head : (is : List Item) → wrongHead is ≡ false → length (filterMap sizeIn is) ≡ 1
@@ -140,9 +143,13 @@ one-job (j ∷ k ∷ js) e = absurd (omega arith)
 
 -- a table in force that is not the fixed one has a record
 tables-recorded : (tables : List (List ℕ)) → length (tablesOf (headD tables fixedFactors)) ≤ length tables
-unfolding tablesOf sameNumbers headD
-tables-recorded [] = omega arith
-tables-recorded (fs ∷ tables) = omega (arith, tables-few fs)
+unfolding tablesOf sameNumbers
+tables-recorded = unless-recorded (λ fs. sameNumbers fs fixedFactors) fixedFactors refl
+
+-- and so has a default that is not 0
+default-recorded : (s : Stated) → length (someDefault (default s)) ≤ length (s .defaults)
+unfolding default someDefault
+default-recorded s = unless-recorded (λ d. eqb d 0) 0 refl (s .defaults)
 
 -- an input that passes has the bytes of what it states, and no others but those of a record of the fixed table
 pub passing-length : (input : List ℕ) → inputRefusal (frame input) ≡ 0 → statedBytes (statedIn input) ≤ length input
@@ -189,16 +196,18 @@ put-table-length fs eight = go (sameNumbers fs fixedFactors)
 
 -- what is written has as many bytes as it states
 pub put-stated-length : (s : Stated) → length (s .factors) ≡ 8 → length (putStated s) ≡ statedBytes s
-unfolding putStated statedBytes putHead putEstimate putWait putJob jobRecord putRecord put16 put32
+unfolding putStated statedBytes putHead putEstimate putWait putDefault putJob jobRecord putRecord put16 put32
 put-stated-length s eight =
     let lanes : List ℕ = flatMap putLane (s .lanes) in
     let estimates : List ℕ = flatMap putEstimateOf (s .estimates) in
     let waits : List ℕ = flatMap putWaitOf (s .waits) in
     let table : List ℕ = putTable (s .factors) in
+    let defaults : List ℕ = flatMap putDefault (s .defaults) in
     let job : List ℕ = putJob (s .job .start) (s .job .allowance) (s .job .goals) in
     omega (
       arith,
-      length-append (lanes ++ estimates ++ waits ++ table) job,
+      length-append (lanes ++ estimates ++ waits ++ table ++ defaults) job,
+      length-append (lanes ++ estimates ++ waits ++ table) defaults,
       length-append (lanes ++ estimates ++ waits) table,
       length-append (lanes ++ estimates) waits,
       length-append lanes estimates,
@@ -206,6 +215,7 @@ put-stated-length s eight =
       put-length putEstimateOf (λ es. (4 + estimateBytes) * length es) refl (λ e es. omega arith) (s .estimates),
       put-length putWaitOf (λ ws. (4 + waitBytes) * length ws) refl (λ w ws. omega arith) (s .waits),
       put-table-length (s .factors) eight,
+      put-length putDefault (λ xs. (4 + defaultBytes) * length xs) refl (λ x xs. omega arith) (s .defaults),
       job-length (s .job),
     )
 
@@ -219,7 +229,8 @@ pub canonical-shorter : (s : Stated) → statedBytes (canonical s) ≤ statedByt
 unfolding canonical statedBytes
 canonical-shorter s =
     let n = s .size .places in
-    omega (arith, canonical-lanes s, by-place-fewer n (s .estimates), by-place-fewer n (s .waits))
+    let estimates = by-place-fewer (default s) n (ownEstimates s) in
+    omega (arith, canonical-lanes s, estimates, own-fewer s, default-recorded s, by-place-fewer 0 n (s .waits))
 
 pub written-length : (s : Stated) → length (s .factors) ≡ 8 → length (write s) ≡ statedBytes (canonical s)
 unfolding write canonical

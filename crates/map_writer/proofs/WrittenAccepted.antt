@@ -11,7 +11,7 @@ use borrow.Author.Tests.{le-ltb}
 use Rattle.model.specs.Lists.{any, consIf, filterMap, isGiven}
 use Rattle.model.specs.Bytes.{Bytes, u32}
 use Rattle.model.specs.Framing.{Record, Framed, frame}
-use Rattle.model.specs.Items.{Lane, Job, Item, head, lane, estimate, job, wait, ownFactors, other}
+use Rattle.model.specs.Items.{Lane, Job, Item, head, lane, estimate, job, wait, ownFactors, defaultEstimate, other}
 use Rattle.model.specs.Items.{jobOf, itemOf, items, bodyLength, sizeIn, jobIn, factorsIn}
 use Rattle.model.specs.Stated.{Stated, IsTable, noJob, statedBy, stated, statedIn}
 use Rattle.model.specs.Refusals.{unknownKind, beginsWithHead, wrongHead, wrongMeasure, breaksRules, wrongFactors, endsWithJob, wrongJob}
@@ -78,6 +78,7 @@ allowance-field r j e = go (itemOf r) (kind-of r) e
     go (job k) (is-job q) e = cc
     go (wait w) k e = none-some e
     go (ownFactors fs) k e = none-some e
+    go (defaultEstimate x) k e = none-some e
     go other k e = none-some e
 
 -- the allowance is a number of 4 bytes
@@ -112,7 +113,8 @@ module _ (t : Stated) where
   known-kinds : unknownKind (itemsOf t) ≡ false
   unfolding unknownKind itemsOf bodyLength isGiven any
   known-kinds =
-      let tables = none-passes ownFactors _ (λ fs. refl) (tablesOf (t .factors)) _ refl in
+      let defaults = none-passes defaultEstimate _ (λ x. refl) (t .defaults) _ refl in
+      let tables = none-passes ownFactors _ (λ fs. refl) (tablesOf (t .factors)) _ defaults in
       let waits = none-passes wait _ (λ w. refl) (t .waits) _ tables in
       none-passes lane _ (λ l. refl) (t .lanes) _ (none-passes estimate _ (λ e. refl) (t .estimates) _ waits)
 
@@ -124,6 +126,7 @@ module _ (t : Stated) where
         none-taken estimate sizeIn (λ e. refl) (t .estimates),
         none-taken wait sizeIn (λ w. refl) (t .waits),
         none-taken ownFactors sizeIn (λ fs. refl) (tablesOf (t .factors)),
+        none-taken defaultEstimate sizeIn (λ x. refl) (t .defaults),
       )
 
   -- the table is the only one, and keeps the rules
@@ -138,6 +141,7 @@ module _ (t : Stated) where
         none-taken estimate factorsIn (λ e. refl) (t .estimates),
         none-taken wait factorsIn (λ w. refl) (t .waits),
         all-taken ownFactors factorsIn (λ fs. refl) tables,
+        none-taken defaultEstimate factorsIn (λ x. refl) (t .defaults),
         append-nil tables,
       ) (or-none (ltb 1 (length tables)) (any breaksRules tables) (le-ltb 1 (length tables) (tables-few (t .factors))) kept)
 
@@ -148,16 +152,22 @@ module _ (t : Stated) where
       let es : List Item = map estimate (t .estimates) in
       let ws : List Item = map wait (t .waits) in
       let fs : List Item = map ownFactors (tablesOf (t .factors)) in
+      let ds : List Item = map defaultEstimate (t .defaults) in
       let last : List Item = job (t .job) ∷ [] in
-      let end : endsWithJob (head (t .size) ∷ (ls ++ (es ++ (ws ++ (fs ++ last))))) ≡ true
-      = rw (← append-assoc ws fs last, ← append-assoc es (ws ++ fs) last, ← append-assoc ls (es ++ (ws ++ fs)) last)
-      (ends-after (head (t .size)) (ls ++ (es ++ (ws ++ fs))) (job (t .job))) in
+      let end : endsWithJob (head (t .size) ∷ (ls ++ (es ++ (ws ++ (fs ++ (ds ++ last)))))) ≡ true
+      = rw (
+        ← append-assoc fs ds last,
+        ← append-assoc ws (fs ++ ds) last,
+        ← append-assoc es (ws ++ (fs ++ ds)) last,
+        ← append-assoc ls (es ++ (ws ++ (fs ++ ds))) last,
+      ) (ends-after (head (t .size)) (ls ++ (es ++ (ws ++ (fs ++ ds)))) (job (t .job))) in
       rw (
         end,
         none-taken lane jobIn (λ l. refl) (t .lanes),
         none-taken estimate jobIn (λ e. refl) (t .estimates),
         none-taken wait jobIn (λ w. refl) (t .waits),
         none-taken ownFactors jobIn (λ x. refl) (tablesOf (t .factors)),
+        none-taken defaultEstimate jobIn (λ x. refl) (t .defaults),
       )
 
   -- the records of what passes are accepted

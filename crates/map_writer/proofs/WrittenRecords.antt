@@ -1,6 +1,6 @@
 -- The records that are written of what is stated. Where its fields fit in theirs, they are bytes and are framed as those records. Assumes nothing.
 use mathlib.Core.Path.{_≡_, refl, sym}
-use mathlib.Core.Bool.{Bool, true, false, cond}
+use mathlib.Core.Bool.{false}
 use mathlib.Core.List.{List, [], _∷_, _++_, map, flatMap, append-nil, append-assoc}
 use mathlib.Core.List.{List·Memᴰ, List·Memᴰ·head, List·Memᴰ·tail, List·Memᴰ·not-nil}
 use Prim.Native.Nat.{ℕ, _+_, _*_, _^_, _≤_, _<_}
@@ -9,13 +9,15 @@ use lib.ListN.{length}
 use Rattle.model.specs.Lists.{sameNumbers}
 use Rattle.model.specs.Bytes.{Bytes, put16, put32, put16s}
 use Rattle.model.specs.Framing.{Record, frame, putRecord}
-use Rattle.model.specs.Items.{headKind, arcKind, estimateKind, jobKind, measuredKind, waitKind, factorsKind, factorsBytes, jobBytes}
+use Rattle.model.specs.Limits.{maxEstimate}
+use Rattle.model.specs.Items.{headKind, arcKind, estimateKind, jobKind, measuredKind, waitKind, factorsKind, defaultKind, factorsBytes, jobBytes}
 use Rattle.model.specs.Items.{Size, Charge, flat, measured, Lane, PlaceValue, Job}
 use Rattle.model.specs.Stated.{Stated, fixedFactors, IsTable}
-use Rattle.model.specs.Jobs.{putHead, putArc, putMeasured, putEstimate, putWait, putFactors, putTable, putJob, putCharged, putLane}
+use Rattle.model.specs.Jobs.{putHead, putArc, putMeasured, putEstimate, putWait, putFactors, putTable, putDefault, putJob, putCharged, putLane}
 use Rattle.model.proofs.Bytes.{append-bytes, put16-is-bytes, put32-is-bytes, put16s-is-bytes, put16s-length}
 use Rattle.model.proofs.Records.{putRecords, Fits, AllFit, frame-records}
 use Rattle.map_writer.specs.Canonical.{putStated}
+use Rattle.map_writer.proofs.AtMostOne.{oneUnless, unless-few, unless-member, unless-put}
 
 -- ---- what fits in the bytes of its fields
 
@@ -46,6 +48,7 @@ pub record Storable (t : Stated) : Type 0 where
   pub estimates : (e : PlaceValue) → List·Memᴰ e (t .estimates) → StorableValue (2 ^ 32) e
   pub waits : (w : PlaceValue) → List·Memᴰ w (t .waits) → StorableValue 65536 w
   pub factors : IsTable (t .factors)
+  pub defaults : (x : ℕ) → List·Memᴰ x (t .defaults) → x ≤ maxEstimate
   pub job : StorableJob (t .job)
   -- no record states another
   pub growth : t .growth ≡ 2
@@ -73,7 +76,10 @@ factorsRecord fs = record { kind = factorsKind; body = put16s fs }
 
 -- the tables that are written: one, where it is not the fixed one
 unfoldable pub tablesOf : List ℕ → List (List ℕ)
-tablesOf fs = cond (sameNumbers fs fixedFactors) [] (fs ∷ [])
+tablesOf fs = oneUnless (sameNumbers fs fixedFactors) fs
+
+unfoldable pub defaultRecord : ℕ → Record
+defaultRecord x = record { kind = defaultKind; body = put32 x }
 
 unfoldable pub jobRecord : Job → Record
 jobRecord j = record { kind = jobKind; body = put16 (j .start) ++ put32 (j .allowance) ++ put16 (length (j .goals)) ++ put16s (j .goals) }
@@ -83,33 +89,21 @@ recordsOf t =
     headRecord (t .size)
     ∷ (map laneRecord (t .lanes)
     ++ (map estimateRecord (t .estimates)
-    ++ (map waitRecord (t .waits) ++ (map factorsRecord (tablesOf (t .factors)) ++ (jobRecord (t .job) ∷ [])))))
+    ++ (map waitRecord (t .waits)
+    ++ (map factorsRecord (tablesOf (t .factors)) ++ (map defaultRecord (t .defaults) ++ (jobRecord (t .job) ∷ []))))))
 
 module _ (fs : List ℕ) where
   pub tables-few : length (tablesOf fs) ≤ 1
   unfolding tablesOf
-  tables-few = go (sameNumbers fs fixedFactors)
-    where
-      go : (same : Bool) → length (cond same [] (fs ∷ [])) ≤ 1
-      go true = omega arith
-      go false = omega arith
+  tables-few = unless-few fs (sameNumbers fs fixedFactors)
 
   pub tables-member : (gs : List ℕ) → List·Memᴰ gs (tablesOf fs) → gs ≡ fs
   unfolding tablesOf
-  tables-member gs = go (sameNumbers fs fixedFactors)
-    where
-      go : (same : Bool) → List·Memᴰ gs (cond same [] (fs ∷ [])) → gs ≡ fs
-      go true i = absurd (List·Memᴰ·not-nil i)
-      go false (List·Memᴰ·head e) = e
-      go false (List·Memᴰ·tail i) = absurd (List·Memᴰ·not-nil i)
+  tables-member = unless-member fs (sameNumbers fs fixedFactors)
 
   put-tables : flatMap putFactors (tablesOf fs) ≡ putTable fs
-  unfolding tablesOf putTable flatMap
-  put-tables = go (sameNumbers fs fixedFactors)
-    where
-      go : (same : Bool) → flatMap putFactors (cond same [] (fs ∷ [])) ≡ cond same [] (putFactors fs)
-      go true = refl
-      go false = append-nil (putFactors fs)
+  unfolding tablesOf putTable
+  put-tables = unless-put fs putFactors (sameNumbers fs fixedFactors)
 
 -- records put one after another, of which each is the bytes that g gives
 module _ {A : Type 0} (f : A → Record) (g : A → List ℕ) (each : (x : A) → g x ≡ putRecord (f x .kind) (f x .body)) where
@@ -146,6 +140,10 @@ put-factors : (fs : List ℕ) → putFactors fs ≡ putRecord (factorsRecord fs 
 unfolding putFactors factorsRecord
 put-factors fs = refl
 
+put-default : (x : ℕ) → putDefault x ≡ putRecord (defaultRecord x .kind) (defaultRecord x .body)
+unfolding putDefault defaultRecord
+put-default x = refl
+
 -- one after another they are what is written
 pub put-records : (t : Stated) → putRecords (recordsOf t) ≡ putStated t
 unfolding recordsOf putStated putRecords putHead putJob headRecord jobRecord
@@ -154,8 +152,9 @@ put-records t =
     let estimates = put-each estimateRecord putEstimateOf put-estimate (t .estimates) in
     let waits = put-each waitRecord putWaitOf put-wait (t .waits) in
     let tables = put-each factorsRecord putFactors put-factors (tablesOf (t .factors)) in
+    let defaults = put-each defaultRecord putDefault put-default (t .defaults) in
     let job : List ℕ = putJob (t .job .start) (t .job .allowance) (t .job .goals) in
-    rw (lanes, estimates, waits, tables, put-tables (t .factors), append-nil job) (simp append-assoc)
+    rw (lanes, estimates, waits, tables, put-tables (t .factors), defaults, append-nil job) (simp append-assoc)
 
 -- ---- they fit
 
@@ -201,6 +200,10 @@ unfolding factorsRecord
 factors-fits fs eight =
     record { kind-below = omega arith; length-below = omega (arith, factors-length fs eight); bytes = put16s-is-bytes fs }
 
+default-fits : (x : ℕ) → Fits (defaultRecord x)
+unfolding defaultRecord put32
+default-fits x = record { kind-below = omega arith; length-below = omega arith; bytes = put32-is-bytes x }
+
 -- the body of a job before its goals
 abbrev pub jobFront : Job → List ℕ
 jobFront j = put16 (j .start) ++ put32 (j .allowance) ++ put16 (length (j .goals))
@@ -236,7 +239,8 @@ records-fit t ok r (List·Memᴰ·head e) = rw e (head-fits (t .size))
 records-fit t ok r (List·Memᴰ·tail i) =
     let table-fits : (fs : List ℕ) → List·Memᴰ fs (tablesOf (t .factors)) → Fits (factorsRecord fs)
     = λ fs j. factors-fits fs (rw (tables-member (t .factors) fs j) (ok .factors .eight)) in
-    let tables = fit-each factorsRecord (tablesOf (t .factors)) table-fits _ last in
+    let defaults = fit-each defaultRecord (t .defaults) (λ x j. default-fits x) _ last in
+    let tables = fit-each factorsRecord (tablesOf (t .factors)) table-fits _ defaults in
     let waits = fit-each waitRecord (t .waits) (λ w j. wait-fits w) _ tables in
     let estimates = fit-each estimateRecord (t .estimates) (λ e j. estimate-fits e) _ waits in
     fit-each laneRecord (t .lanes) (λ l j. lane-fits l) _ estimates r i

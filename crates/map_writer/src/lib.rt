@@ -15,14 +15,14 @@ ghost use Rattle.load.specs.Loaded.{Loadable};
 ghost use Rattle.map_writer.specs.Call.{Wrote, WroteFor};
 ghost use Rattle.map_writer.specs.Steps.{HasRoom, roomNumber, InOrder};
 
-// Puts the lanes of an accepted input in order.
+// Puts the lanes of an accepted input in order. At goals the estimate is the default, which is not written.
 fn order(input: &[u8], job: Job, work: &mut [u32])
     requires { ⌜ Loadable (now input) job (now work) ⌝ }
     ensures { λ _. ⌜ InOrder (now (input .entry)) (job .site) (now (work .entry)) (now (work .exit)) ⌝ }
 {
     let site = job.site;
     let places = site.places;
-    load::prepare(input, job, work);
+    load::prepare(input, job, job.default, work);
     let factors = record::factors(input, job.factors_at);
     lane_rows::place_records(input, places, &factors, work);
     lane_rows::sort_rows(work, places);

@@ -9,37 +9,29 @@ use lib.Dec.{ltb, leb, eqb}
 use lib.ListN.{length}
 use borrow.Author.Tests.{ltb-false, leb-false, eqb-true, not-false}
 use Rattle.model.specs.Bytes.{Bytes}
-use Rattle.model.specs.Lists.{any, filterMap, repeats}
+use Rattle.model.specs.Lists.{any, filterMap, member, repeats}
 use Rattle.model.specs.Framing.{Record, frame}
 use Rattle.model.specs.Limits.{maxCost, maxEstimate}
 use Rattle.model.specs.Problem.{Valid}
-use Rattle.model.specs.Items.{flat, measured, Lane, PlaceValue, Item, head, lane, estimate, job, wait, ownFactors, other}
+use Rattle.model.specs.Items.{flat, measured, Lane, PlaceValue, Item, head, lane, estimate, job, wait, ownFactors, defaultEstimate, other}
 use Rattle.model.specs.Items.{factorsOf, itemOf, items, laneIn, waitIn, factorsIn}
-use Rattle.model.specs.Stated.{fixedFactors, IsTable, statedBy, stated, statedIn, lookup, laneCost, arcOf, problemOf}
+use Rattle.model.specs.Stated.{Stated, fixedFactors, IsTable, statedBy, stated, statedIn, default, estimateAt, laneCost, arcOf, problemOf}
 use Rattle.model.specs.Refusals.{wrongSize, outsideMap, freeArc, largeEstimate, wrongMeasure, breaksRules, wrongFactors, placesIn}
 use Rattle.model.specs.Refusals.{wrongWait}
 use Rattle.model.specs.Refusals.{jobOutsideMap, wrongGoals, goalEstimate}
 use Rattle.model.specs.Refusals.{formRows, sizeRows, mapRows, factorRows, costRows, jobRows, inputRows, roomRows, rows, holdsAt}
 use Rattle.model.specs.Refusals.{refusal, Accepted}
-use Rattle.model.proofs.Lists.{none-some, neither, any-false, filterMap-member}
+use Rattle.model.proofs.Lists.{none-some, neither, any-false, filterMap-member, member-true, only-one, none-first}
 use Rattle.model.proofs.Bytes.{u16-below, u16s-length}
 use Rattle.model.proofs.Records.{records-fit}
 use Rattle.model.proofs.Items.{flat-field, wait-field, factors-field}
 use Rattle.model.proofs.Charges.{fixed-table, table-passes, measured-cost, lane-cost-above}
+use Rattle.model.proofs.Lookups.{lookup-below}
 use Rattle.model.proofs.Rows.{row-fails, rows-numbered}
 
 some-member : {A : Type 0} (xs : List A) → 1 ≤ length xs → (x : A) × List·Memᴰ x xs
 some-member [] h = absurd (omega arith)
 some-member (x ∷ xs) h = (x, List·Memᴰ·head refl)
-
-pub lookup-below : (es : List PlaceValue) (m : ℕ) → ((e : PlaceValue) → List·Memᴰ e es → e .value ≤ m) → (v : ℕ) → lookup 0 es v ≤ m
-unfolding lookup
-lookup-below [] m h v = omega arith
-lookup-below (e ∷ es) m h v = go (lookup-below es m (λ f i. h f (List·Memᴰ·tail i)) v) (eqb (e .place) v)
-  where
-    go : lookup 0 es v ≤ m → (t : Bool) → cond t (e .value) (lookup 0 es v) ≤ m
-    go rest true = h e (List·Memᴰ·head refl)
-    go rest false = rest
 
 module _ (input : List ℕ) (B : Bytes input) where
   -- what an item states is what a record of bytes says
@@ -85,14 +77,9 @@ module _ (rs : List Record) (right : wrongFactors (items rs) ≡ false) where
       go (fs ∷ tables) long kept = table-passes fs (long fs (List·Memᴰ·head refl)) .0 (any-false _ _ kept fs (List·Memᴰ·head refl))
 
   own-factors : (fs : List ℕ) → List·Memᴰ (ownFactors fs) (items rs) → stated rs .factors ≡ fs
-  unfolding stated statedBy headD factorsIn
-  own-factors fs i = go (filterMap factorsIn (items rs)) (few-and-kept .0) (filterMap-member factorsIn (items rs) fs .1 (ownFactors fs, i, refl))
-    where
-      go : (tables : List (List ℕ)) → length tables ≤ 1 → List·Memᴰ fs tables → headD tables fixedFactors ≡ fs
-      go [] few i = absurd (List·Memᴰ·not-nil i)
-      go (gs ∷ []) few (List·Memᴰ·head e) = sym e
-      go (gs ∷ []) few (List·Memᴰ·tail i) = absurd (List·Memᴰ·not-nil i)
-      go (gs ∷ hs ∷ tables) few i = absurd (omega arith)
+  unfolding stated statedBy factorsIn
+  own-factors fs i =
+      only-one (filterMap factorsIn (items rs)) fixedFactors fs (few-and-kept .0) (filterMap-member factorsIn (items rs) fs .1 (ownFactors fs, i, refl))
 
 factors-are : (i : Item) (fs : List ℕ) → factorsIn i ≡ some fs → i ≡ ownFactors fs
 unfolding factorsIn
@@ -102,24 +89,38 @@ factors-are (estimate s) fs e = none-some e
 factors-are (job j) fs e = none-some e
 factors-are (wait w) fs e = none-some e
 factors-are (ownFactors gs) fs e = cc
+factors-are (defaultEstimate x) fs e = none-some e
 factors-are other fs e = none-some e
 
 pub fixed-factors : (rs : List Record) → ((fs : List ℕ) → List·Memᴰ (ownFactors fs) (items rs) → ⊥) → stated rs .factors ≡ fixedFactors
-unfolding stated statedBy headD
-fixed-factors rs no-record = go (filterMap factorsIn (items rs)) λ fs i.
+unfolding stated statedBy
+fixed-factors rs no-record = none-first (filterMap factorsIn (items rs)) fixedFactors λ fs i.
     let (k, m, has) = filterMap-member factorsIn (items rs) fs .0 i in no-record fs (rw (← factors-are k fs has) m)
-  where
-    go : (tables : List (List ℕ)) → ((fs : List ℕ) → List·Memᴰ fs tables → ⊥) → headD tables fixedFactors ≡ fixedFactors
-    go [] none = refl
-    go (fs ∷ tables) none = absurd (none fs (List·Memᴰ·head refl))
 
 -- no record states a growth
 pub states-growth : (rs : List Record) → stated rs .growth ≡ 2
 unfolding stated statedBy
 states-growth rs = refl
 
+-- where 8 does not hold, neither an own estimate is above the highest nor the default
+module _ (s : Stated) (small : largeEstimate s ≡ false) where
+  none-large : (any (λ (e : PlaceValue). ltb maxEstimate (e .value)) (s .estimates) ≡ false) × (any (ltb maxEstimate) (s .defaults) ≡ false)
+  unfolding largeEstimate
+  none-large = neither _ _ small
+
+  pub small-estimate : (e : PlaceValue) → List·Memᴰ e (s .estimates) → e .value ≤ maxEstimate
+  small-estimate e i = ltb-false _ _ (any-false _ (s .estimates) (none-large .0) e i)
+
+  pub small-default : default s ≤ maxEstimate
+  unfolding default headD
+  small-default = go (s .defaults) (none-large .1)
+    where
+      go : (xs : List ℕ) → any (ltb maxEstimate) xs ≡ false → headD xs 0 ≤ maxEstimate
+      go [] e = omega arith
+      go (x ∷ xs) e = ltb-false _ _ (any-false _ _ e x (List·Memᴰ·head refl))
+
 module _ (input : List ℕ) (words bytes : ℕ) (A : Accepted input words bytes) where
-  accepted-row : (n : ℕ) → holdsAt n (rows (frame input) words bytes) ≡ false
+  pub accepted-row : (n : ℕ) → holdsAt n (rows (frame input) words bytes) ≡ false
   unfolding refusal
   accepted-row = row-fails (rows (frame input) words bytes) (rows-numbered (frame input) words bytes) A
 
@@ -138,6 +139,22 @@ module _ (input : List ℕ) (words bytes : ℕ) (A : Accepted input words bytes)
   unfolding laneCost rows inputRows formRows sizeRows mapRows holdsAt wrongMeasure
   accepted-lane-cost l length class i is =
       rw is (measured-cost (statedIn input .factors) accepted-table length class (rw is at (any-false _ _ (accepted-row 20) l i)))
+
+  accepted-estimate : (v : ℕ) → estimateAt (statedIn input) v ≤ maxEstimate
+  unfolding estimateAt rows inputRows formRows sizeRows mapRows holdsAt
+  accepted-estimate v =
+      let s = statedIn input in
+      let small = accepted-row 8 in
+      go (member v (s .job .goals)) (lookup-below (default s) (s .estimates) maxEstimate (small-default s small) (small-estimate s small) v)
+    where
+      go : {x : ℕ} (t : Bool) → x ≤ maxEstimate → cond t 0 x ≤ maxEstimate
+      go true l = omega arith
+      go false l = l
+
+-- goals keep 0, whatever the default
+pub goal-estimate : (s : Stated) (g : ℕ) → List·Memᴰ g (s .job .goals) → estimateAt s g ≡ 0
+unfolding estimateAt
+goal-estimate s g i = rw (member-true g (s .job .goals) .1 i)
 
 -- each condition is found by its number
 pub accepted-valid : (input : List ℕ) (words bytes : ℕ) → Accepted input words bytes → Valid (problemOf (statedIn input))
@@ -164,10 +181,10 @@ accepted-valid input words bytes A =
       cost-below = λ a i.
           let (l, j, is) = Memᴰ·of-map _ _ i in
           rw (← is) (ltb-false _ _ (any-false _ _ (neither (repeats (placesIn (s .waits))) _ (no 21) .1) l j));
-      estimate-below = lookup-below _ maxEstimate λ e i. ltb-false _ _ (any-false _ _ (no 8) e i);
+      estimate-below = accepted-estimate input words bytes A;
       start-below = leb-false _ _ (job .0);
       some-goal = some-member (p .goals) (ltb-false _ _ (neither _ _ (neither _ _ (no 12) .0) .0));
       goal-below = λ g i. leb-false _ _ (any-false _ _ (job .1) g i);
-      goal-estimate = λ g i. eqb-true _ _ (not-false _ (any-false _ _ (no 13) g i));
+      goal-estimate = λ g i. goal-estimate s g i;
       grows = rw (states-growth (f .records)) (omega arith);
     }

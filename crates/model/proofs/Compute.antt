@@ -11,6 +11,7 @@ use Rattle.model.specs.Items.{
   jobOf,
   waitOf,
   factorsOf,
+  defaultOf,
   itemOf,
   chargeBytes,
   bodyLength,
@@ -23,8 +24,9 @@ use Rattle.model.specs.Items.{
   jobIn,
   waitIn,
   factorsIn,
+  defaultIn,
 }
-use Rattle.model.specs.Stated.{statedBy, stated, lookup, costUnder, laneCost, waitAt, arcOf, problemOf}
+use Rattle.model.specs.Stated.{statedBy, stated, lookup, default, estimateAt, costUnder, laneCost, waitAt, arcOf, problemOf}
 use Rattle.model.specs.Refusals.{
   unknownKind,
   wrongLength,
@@ -117,7 +119,8 @@ use Rattle.model.specs.Sheets.{
   readSheet,
   hostAnswer,
 }
-use Rattle.model.specs.Jobs.{putHead, putArc, putMeasured, putEstimate, putWait, putFactors, putTable, putJob, shares, putChain, routeJob, noRouteJob}
+use Rattle.model.specs.Jobs.{putHead, putArc, putMeasured, putEstimate, putWait, putFactors, putTable, putDefault, putSomeDefault, putJob, shares, putChain, routeJob}
+use Rattle.model.specs.Jobs.{noRouteJob}
 use Rattle.model.specs.Endings.{finished, endingIf, budgetedBy}
 use Rattle.model.specs.Answer.{sheetOf, answerOf, overFront, refusedWith, endedWith, callIf, call}
 
@@ -127,9 +130,9 @@ unfolding
     any filter isGiven consIf filterMap lesser leastBy member repeats rises falls sameNumbers
     u16 u32 u16s put16 put32 put16s
     stop push frameUpTo frame putRecord
-    headOf laneOf measuredOf estimateOf jobOf waitOf factorsOf itemOf chargeBytes bodyLength otherThan misfits items
-    sizeIn laneIn estimateIn jobIn waitIn factorsIn
-    statedBy stated lookup costUnder laneCost waitAt arcOf problemOf
+    headOf laneOf measuredOf estimateOf jobOf waitOf factorsOf defaultOf itemOf chargeBytes bodyLength otherThan misfits items
+    sizeIn laneIn estimateIn jobIn waitIn factorsIn defaultIn
+    statedBy stated lookup default estimateAt costUnder laneCost waitAt arcOf problemOf
     unknownKind wrongLength beginsWithHead wrongHead wrongSize outsideMap isFree freeArc largeEstimate twoEstimates mismeasured wrongMeasure
     breaksRules wrongFactors wrongWait endsWithJob wrongJob jobOutsideMap wrongGoals goalEstimate shortWork shortSheet
     formRows sizeRows mapRows factorRows costRows jobRows inputRows roomRows rows firstThatHolds refusal
@@ -138,6 +141,6 @@ unfolding
     firstRound limitOf closeIf settle after ask next goOn traceUpTo trace total begun search
     parentBy parent extend routeUpTo routeTo tightBy leastPaths routeToFirst firstRoute
     routeSheet noRouteSheet reading refusedRead impossible checked fitsRoute fitsNoRoute readRecord readFramed readSheet hostAnswer
-    putHead putArc putMeasured putEstimate putWait putFactors putTable putJob shares putChain routeJob noRouteJob
+    putHead putArc putMeasured putEstimate putWait putFactors putTable putDefault putSomeDefault putJob shares putChain routeJob noRouteJob
     finished endingIf budgetedBy sheetOf answerOf overFront refusedWith endedWith callIf call
 compute = tt

@@ -14,8 +14,9 @@ use Rattle.model.specs.Bytes.{Bytes}
 use Rattle.model.specs.Framing.{frame}
 use Rattle.model.specs.Problem.{IsGoal}
 use Rattle.model.specs.Paths.{WalkAlong, GoalReachable, Route, Cheapest, FirstCheapest, FirstWithin, Overstates, Admissible}
-use Rattle.model.specs.Items.{measured, Lane, ownFactors}
-use Rattle.model.specs.Stated.{fixedFactors, IsTable, statedIn, laneCost, problemOf}
+use Rattle.model.specs.Items.{measured, Lane, PlaceValue, estimate, ownFactors, defaultEstimate}
+use Rattle.model.specs.Limits.{maxEstimate}
+use Rattle.model.specs.Stated.{fixedFactors, IsTable, statedIn, default, laneCost, problemOf}
 use Rattle.model.specs.Ways.{Travels}
 use Rattle.model.specs.Refusals.{Row, rows}
 use Rattle.model.specs.Costs.{table}
@@ -30,8 +31,10 @@ use Rattle.model.specs.Allowances.{DifferInAllowance}
 use Rattle.model.specs.Jobs.{routeJob, noRouteJob}
 use Rattle.model.specs.Terms.{endsBetween}
 use Rattle.model.proofs.Laws.{admissible-total, never-spent-at-2, has-cheapest}
-use Rattle.model.proofs.Acceptance.{states-growth, stated-factors, fixed-factors, accepted-table, accepted-lane-cost}
-use Rattle.model.proofs.OwnTables.{tableRecords, tables-fit, tables-accepted, tables-stated}
+use Rattle.model.proofs.Acceptance.{states-growth, stated-factors, fixed-factors, accepted-table, accepted-lane-cost, goal-estimate}
+use Rattle.model.proofs.Taken.{tableRecords, tables-fit, tables-accepted, tables-stated}
+use Rattle.model.proofs.Taken.{defaultRecords, defaults-fit, defaults-accepted, defaults-stated}
+use Rattle.model.proofs.Defaults.{no-default, left-to-default, stated-default, stated-estimate}
 use Rattle.model.proofs.Records.{putRecords, putRecords-is-bytes}
 use Rattle.model.proofs.Ways.{walks-are-ways, routes-are-ways, overstates-by-ways}
 use Rattle.model.proofs.Sheets.{refused-otherwise}
@@ -318,6 +321,39 @@ every-table fs table = (
   tables-stated fs table,
 )
 
+-- no record gives the place an estimate of its own
+abbrev pub NoneOfItsOwn : Call → ℕ → Type 0
+NoneOfItsOwn c v = (e : PlaceValue) → List·Memᴰ (estimate e) (itemsIn c) → e .place ≡ v → ⊥
+
+-- Document 02, paper 8, of an accepted call: the estimates of which the demands above speak.
+pub record DefaultEstimates (c : Call) : Type 0 where
+  -- "Record kind 8 holds one 4-byte estimate for all places that have none of their own", wherever it stands,
+  pub given : (x : ℕ) → List·Memᴰ (defaultEstimate x) (itemsIn c) → (v : ℕ) → NoneOfItsOwn c v → (IsGoal (problem c) v → ⊥)
+      → problem c .estimate v ≡ x
+  -- "goals excepted, which keep 0";
+  pub goals : (g : ℕ) → IsGoal (problem c) g → problem c .estimate g ≡ 0
+  -- an own estimate is kept, one of 0 too,
+  pub own : (e : PlaceValue) → List·Memᴰ (estimate e) (itemsIn c) → problem c .estimate (e .place) ≡ e .value
+  -- and without a record of kind 8 a place without its own has 0
+  pub none : ((x : ℕ) → List·Memᴰ (defaultEstimate x) (itemsIn c) → ⊥) → (v : ℕ) → NoneOfItsOwn c v → (IsGoal (problem c) v → ⊥)
+      → problem c .estimate v ≡ 0
+
+default-estimates : (c : Call) → IsAccepted c → DefaultEstimates c
+unfolding problemOf
+default-estimates c A = record {
+  given = λ x i v no-own no-goal. left-to-default (c .input) v no-own no-goal ∙ stated-default (c .input) _ _ A x i;
+  goals = goal-estimate (statedIn (c .input));
+  own = stated-estimate (c .input) _ _ A;
+  none = λ no-record v no-own no-goal. left-to-default (c .input) v no-own no-goal ∙ no-default (c .input) no-record;
+}
+
+every-default : (x : ℕ) → x ≤ maxEstimate → (c : Call) × IsAccepted c × (default (statedIn (c .input)) ≡ x)
+every-default x small = (
+  record { input = putRecords (defaultRecords x); work = replicate 16 0; sheet = replicate 12 0; bytes = putRecords-is-bytes _ (defaults-fit x small) },
+  defaults-accepted x small,
+  defaults-stated x small,
+)
+
 -- All demands, of a program.
 pub record Demands (P : Program) : Type 0 where
   pub demand-1 : (c : Call) (r : Result) → P c r → Demand1 c r
@@ -330,6 +366,9 @@ pub record Demands (P : Program) : Type 0 where
   pub own-factors : (c : Call) → IsAccepted c → OwnFactors c
   -- and each of the tables that pass is in force in some accepted call
   pub every-table : (fs : List ℕ) → IsTable fs → (c : Call) × IsAccepted c × (statedIn (c .input) .factors ≡ fs)
+  pub default-estimates : (c : Call) → IsAccepted c → DefaultEstimates c
+  -- and each default up to the highest estimate is in force in some accepted call
+  pub every-default : (x : ℕ) → x ≤ maxEstimate → (c : Call) × IsAccepted c × (default (statedIn (c .input)) ≡ x)
 
 -- They hold of every program that keeps to the definition.
 pub demands : (P : Program) → Keeps P → Demands P
@@ -351,4 +390,6 @@ demands P keeps = record {
   lanes-plus-waits = lanes-plus-waits;
   own-factors = own-factors;
   every-table = every-table;
+  default-estimates = default-estimates;
+  every-default = every-default;
 }

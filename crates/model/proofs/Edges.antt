@@ -8,10 +8,10 @@ use lib.Dec.{eqb}
 use lib.ListN.{replicate}
 use Rattle.model.specs.Bytes.{put16, put32}
 use Rattle.model.specs.Framing.{Record, frame, putRecord}
-use Rattle.model.specs.Items.{headKind, arcKind, estimateKind, jobKind, measuredKind, waitKind}
+use Rattle.model.specs.Items.{headKind, arcKind, estimateKind, jobKind, measuredKind, waitKind, defaultKind}
 use Rattle.model.specs.Stated.{stated}
 use Rattle.model.specs.Refusals.{wrongSize, refusal}
-use Rattle.model.specs.Jobs.{putHead, putArc, putMeasured, putEstimate, putWait, putFactors, putJob}
+use Rattle.model.specs.Jobs.{putHead, putArc, putMeasured, putEstimate, putWait, putFactors, putDefault, putJob}
 use Rattle.model.specs.Sheets.{readSheet, hostAnswer}
 use Rattle.model.proofs.Compute.{compute}
 use Rattle.model.proofs.Runs.{Case, seven, over, agrees, agree, case, sheet9}
@@ -47,9 +47,9 @@ mapEdges =
     ∷ refused 1 (one ++ here ++ (0 ∷ []))
     ∷ refused 1 (one ++ here ++ (0 ∷ 0 ∷ 0 ∷ []))
     ∷ refused 1 (one ++ put16 11 ++ put16 jobKind ++ put16 0 ++ put32 9 ++ put16 1 ++ put16 0)
-    -- 2: kinds 0, 8 and 256 + 4
+    -- 2: kinds 0, 9 and 256 + 4
     ∷ refused 2 (one ++ here ++ (0 ∷ 0 ∷ 0 ∷ 0 ∷ []))
-    ∷ refused 2 (one ++ putRecord 8 [] ++ here)
+    ∷ refused 2 (one ++ putRecord 9 [] ++ here)
     ∷ refused 2 (one ++ putRecord 260 (put16 0 ++ put32 9 ++ put16 1 ++ put16 0))
     -- 3: bodies too long and too short; of a job also by its count of goals
     ∷ refused 3 (putRecord headKind (put16 1 ++ put16 0 ++ (0 ∷ [])) ++ here)
@@ -166,6 +166,26 @@ factorEdges =
     ∷ passes 2 1 (two 1 ++ endingIn 16 16 ++ putWait 0 15 ++ putMeasured 0 1 4095 6 ++ here)
     ∷ []
 
+-- 8 and 9 of a default: above the highest estimate, beside that; a second one, an equal one too, beside one with estimates of places; among their
+-- neighbours, and 3, 4 and 10 of its record
+defaultEdges : List Case
+defaultEdges =
+    passes 2 0 (two 0 ++ putDefault 268435455 ++ here)
+    ∷ refused 8 (two 0 ++ putDefault 268435456 ++ here)
+    ∷ refused 8 (two 0 ++ putDefault 5 ++ putDefault 268435456 ++ here)
+    ∷ refused 7 (two 1 ++ putDefault 268435456 ++ putArc 0 1 0 ++ here)
+    ∷ refused 9 (two 0 ++ putDefault 5 ++ putDefault 5 ++ here)
+    ∷ refused 9 (two 0 ++ putDefault 5 ++ putDefault 6 ++ here)
+    ∷ refused 9 (two 0 ++ putDefault 0 ++ putDefault 0 ++ here)
+    ∷ refused 9 (one ++ putDefault 5 ++ here ++ putDefault 5)
+    ∷ refused 9 (two 1 ++ putMeasured 0 1 0 0 ++ putDefault 5 ++ putDefault 5 ++ here)
+    ∷ passes 2 0 (two 0 ++ putEstimate 0 0 ++ putDefault 5 ++ putEstimate 1 5 ++ here)
+    ∷ refused 10 (one ++ here ++ putDefault 5)
+    ∷ refused 4 (putDefault 5 ++ one ++ here)
+    ∷ refused 3 (one ++ putRecord defaultKind (put32 5 ++ (0 ∷ [])) ++ here)
+    ∷ refused 3 (one ++ putRecord defaultKind (5 ∷ 0 ∷ 0 ∷ []) ++ here)
+    ∷ []
+
 jobEdges : List Case
 jobEdges =
     -- 10: no job, two jobs, one that is not last
@@ -183,6 +203,9 @@ jobEdges =
     -- 13: an estimate at a goal, beside one of 0
     ∷ refused 13 (two 0 ++ putEstimate 1 1 ++ putJob 0 9 (0 ∷ 1 ∷ []))
     ∷ passes 2 0 (two 0 ++ putEstimate 1 0 ++ putJob 0 9 (0 ∷ 1 ∷ []))
+    -- beside a default, and beside one that is what the goal's own is
+    ∷ passes 2 0 (two 0 ++ putDefault 1 ++ putJob 0 9 (0 ∷ 1 ∷ []))
+    ∷ refused 13 (two 0 ++ putDefault 1 ++ putEstimate 1 1 ++ putJob 0 9 (0 ∷ 1 ∷ []))
     ∷ []
 
 -- the map of two places and an arc, on so many words and bytes
@@ -213,8 +236,8 @@ roomEdges =
     ∷ lent 33 13 14
     ∷ []
 
-edges-agree : agree (mapEdges ++ waitEdges ++ factorEdges ++ jobEdges ++ roomEdges) ≡ true
-unfolding compute seven over agrees agree case here sheet0 arrived passes refused one two mapEdges waitEdges ones endingIn factorEdges jobEdges
+edges-agree : agree (mapEdges ++ waitEdges ++ factorEdges ++ defaultEdges ++ jobEdges ++ roomEdges) ≡ true
+unfolding compute seven over agrees agree case here sheet0 arrived passes refused one two mapEdges waitEdges ones endingIn factorEdges defaultEdges jobEdges
     lent roomEdges
 edges-agree = refl
 

@@ -49,7 +49,7 @@ estimates-below h l (suc (suc zero)) = omega arith
 estimates-below h l (suc (suc (suc zero))) = omega arith
 estimates-below h l (suc (suc (suc (suc v)))) =
     let w : ℕ = suc (suc (suc (suc v))) in
-    rw (ne-eqb 0 w (λ e. omega arith), ne-eqb 1 w (λ e. omega arith), ne-eqb 2 w (λ e. omega arith), ne-eqb 3 w (λ e. omega arith)) (omega arith)
+    rw (ne-eqb w 3 (λ e. omega arith), ne-eqb 0 w (λ e. omega arith), ne-eqb 1 w (λ e. omega arith), ne-eqb 2 w (λ e. omega arith), ne-eqb 3 w (λ e. omega arith)) (omega arith)
 
 admissible-up-to-4 : (h : ℕ) → h ≤ 4 → Admissible (problemA h)
 admissible-up-to-4 h l = below-consistent (problemA h) distance (distances-consistent h) (estimates-below h l)

@@ -9,9 +9,9 @@ use borrow.Author.Tests.{eqb-true, eqb-false, ne-eqb}
 use Prim.Native.Nat.{ℕ}
 use Rattle.model.specs.Bytes.{u16}
 use Rattle.model.specs.Framing.{Record}
-use Rattle.model.specs.Items.{headKind, arcKind, estimateKind, jobKind, measuredKind, waitKind, factorsKind}
-use Rattle.model.specs.Items.{flat, Lane, PlaceValue, Item, head, lane, estimate, job, wait, ownFactors, other}
-use Rattle.model.specs.Items.{headOf, laneOf, measuredOf, estimateOf, jobOf, waitOf, factorsOf, itemOf, laneIn, waitIn, factorsIn}
+use Rattle.model.specs.Items.{headKind, arcKind, estimateKind, jobKind, measuredKind, waitKind, factorsKind, defaultKind}
+use Rattle.model.specs.Items.{flat, Lane, PlaceValue, Item, head, lane, estimate, job, wait, ownFactors, defaultEstimate, other}
+use Rattle.model.specs.Items.{headOf, laneOf, measuredOf, estimateOf, jobOf, waitOf, factorsOf, defaultOf, itemOf, laneIn, waitIn, factorsIn}
 use Rattle.model.proofs.Lists.{none-some}
 
 module _ (r : Record) where
@@ -23,33 +23,36 @@ module _ (r : Record) where
     is-measured : r .kind ≡ measuredKind → KindOf (lane (measuredOf (r .body)))
     is-wait : r .kind ≡ waitKind → KindOf (wait (waitOf (r .body)))
     is-factors : r .kind ≡ factorsKind → KindOf (ownFactors (factorsOf (r .body)))
+    is-default : r .kind ≡ defaultKind → KindOf (defaultEstimate (defaultOf (r .body)))
     is-other : r .kind ≢ headKind → r .kind ≢ arcKind → r .kind ≢ estimateKind → r .kind ≢ jobKind → r .kind ≢ measuredKind
-        → r .kind ≢ waitKind → r .kind ≢ factorsKind → KindOf other
+        → r .kind ≢ waitKind → r .kind ≢ factorsKind → r .kind ≢ defaultKind → KindOf other
 
   pub kind-of : KindOf (itemOf r)
   unfolding itemOf
   kind-of =
       go (eqb (r .kind) headKind) (eqb (r .kind) arcKind) (eqb (r .kind) estimateKind) (eqb (r .kind) jobKind) (eqb (r .kind) measuredKind)
-      (eqb (r .kind) waitKind) (eqb (r .kind) factorsKind)
-      refl refl refl refl refl refl refl
+      (eqb (r .kind) waitKind) (eqb (r .kind) factorsKind) (eqb (r .kind) defaultKind)
+      refl refl refl refl refl refl refl refl
     where
-      go : (a b c d e f g : Bool) → eqb (r .kind) headKind ≡ a → eqb (r .kind) arcKind ≡ b → eqb (r .kind) estimateKind ≡ c
+      go : (a b c d e f g h : Bool) → eqb (r .kind) headKind ≡ a → eqb (r .kind) arcKind ≡ b → eqb (r .kind) estimateKind ≡ c
           → eqb (r .kind) jobKind ≡ d → eqb (r .kind) measuredKind ≡ e → eqb (r .kind) waitKind ≡ f
-          → eqb (r .kind) factorsKind ≡ g
+          → eqb (r .kind) factorsKind ≡ g → eqb (r .kind) defaultKind ≡ h
           → KindOf (cond a (head (headOf (r .body))) (cond b (lane (laneOf (r .body)))
           (cond c (estimate (estimateOf (r .body))) (cond d (job (jobOf (r .body))) (cond e (lane (measuredOf (r .body)))
-          (cond f (wait (waitOf (r .body))) (cond g (ownFactors (factorsOf (r .body))) other)))))))
-      go true b c d e f g p q s t u v w = is-head (eqb-true (r .kind) headKind p)
-      go false true c d e f g p q s t u v w = is-lane (eqb-true (r .kind) arcKind q)
-      go false false true d e f g p q s t u v w = is-estimate (eqb-true (r .kind) estimateKind s)
-      go false false false true e f g p q s t u v w = is-job (eqb-true (r .kind) jobKind t)
-      go false false false false true f g p q s t u v w = is-measured (eqb-true (r .kind) measuredKind u)
-      go false false false false false true g p q s t u v w = is-wait (eqb-true (r .kind) waitKind v)
-      go false false false false false false true p q s t u v w = is-factors (eqb-true (r .kind) factorsKind w)
-      go false false false false false false false p q s t u v w =
+          (cond f (wait (waitOf (r .body))) (cond g (ownFactors (factorsOf (r .body)))
+          (cond h (defaultEstimate (defaultOf (r .body))) other))))))))
+      go true b c d e f g h p q s t u v w x = is-head (eqb-true (r .kind) headKind p)
+      go false true c d e f g h p q s t u v w x = is-lane (eqb-true (r .kind) arcKind q)
+      go false false true d e f g h p q s t u v w x = is-estimate (eqb-true (r .kind) estimateKind s)
+      go false false false true e f g h p q s t u v w x = is-job (eqb-true (r .kind) jobKind t)
+      go false false false false true f g h p q s t u v w x = is-measured (eqb-true (r .kind) measuredKind u)
+      go false false false false false true g h p q s t u v w x = is-wait (eqb-true (r .kind) waitKind v)
+      go false false false false false false true h p q s t u v w x = is-factors (eqb-true (r .kind) factorsKind w)
+      go false false false false false false false true p q s t u v w x = is-default (eqb-true (r .kind) defaultKind x)
+      go false false false false false false false false p q s t u v w x =
           is-other (eqb-false (r .kind) headKind p) (eqb-false (r .kind) arcKind q) (eqb-false (r .kind) estimateKind s)
           (eqb-false (r .kind) jobKind t) (eqb-false (r .kind) measuredKind u) (eqb-false (r .kind) waitKind v)
-          (eqb-false (r .kind) factorsKind w)
+          (eqb-false (r .kind) factorsKind w) (eqb-false (r .kind) defaultKind x)
 
   pub head-item : r .kind ≡ headKind → itemOf r ≡ head (headOf (r .body))
   unfolding itemOf
@@ -79,11 +82,15 @@ module _ (r : Record) where
   unfolding itemOf
   factors-item e = rw e
 
-  pub other-item : r .kind ≢ headKind → r .kind ≢ arcKind → r .kind ≢ estimateKind → r .kind ≢ jobKind → r .kind ≢ measuredKind
-      → r .kind ≢ waitKind → r .kind ≢ factorsKind → itemOf r ≡ other
+  pub default-item : r .kind ≡ defaultKind → itemOf r ≡ defaultEstimate (defaultOf (r .body))
   unfolding itemOf
-  other-item a b c d e f g =
-      simp (ne-eqb _ _ a, ne-eqb _ _ b, ne-eqb _ _ c, ne-eqb _ _ d, ne-eqb _ _ e, ne-eqb _ _ f, ne-eqb _ _ g)
+  default-item e = rw e
+
+  pub other-item : r .kind ≢ headKind → r .kind ≢ arcKind → r .kind ≢ estimateKind → r .kind ≢ jobKind → r .kind ≢ measuredKind
+      → r .kind ≢ waitKind → r .kind ≢ factorsKind → r .kind ≢ defaultKind → itemOf r ≡ other
+  unfolding itemOf
+  other-item a b c d e f g h =
+      simp (ne-eqb _ _ a, ne-eqb _ _ b, ne-eqb _ _ c, ne-eqb _ _ d, ne-eqb _ _ e, ne-eqb _ _ f, ne-eqb _ _ g, ne-eqb _ _ h)
 
   -- a lane's flat cost is a field of the body
   pub flat-field : (l : Lane) (c : ℕ) → laneIn (itemOf r) ≡ some l → l .charge ≡ flat c → c ≡ u16 (r .body) 4
@@ -98,6 +105,7 @@ module _ (r : Record) where
       go (job j) k e = none-some e
       go (wait w) k e = none-some e
       go (ownFactors fs) k e = none-some e
+      go (defaultEstimate x) k e = none-some e
       go other k e = none-some e
 
   -- and so is a wait
@@ -112,6 +120,7 @@ module _ (r : Record) where
       go (job j) k e = none-some e
       go (wait w) (is-wait q) e = cc
       go (ownFactors fs) k e = none-some e
+      go (defaultEstimate x) k e = none-some e
       go other k e = none-some e
 
   -- and so are the eight factors
@@ -126,4 +135,5 @@ module _ (r : Record) where
       go (job j) k e = none-some e
       go (wait w) k e = none-some e
       go (ownFactors gs) (is-factors q) e = cc
+      go (defaultEstimate x) k e = none-some e
       go other k e = none-some e

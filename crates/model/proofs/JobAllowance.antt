@@ -11,8 +11,9 @@ use borrow.Author.Tests.{eqb-true, not-false}
 use Rattle.model.specs.Lists.{any, isGiven, consIf, filterMap}
 use Rattle.model.specs.Framing.{Record, Framed}
 use Rattle.model.specs.Items.{Size, Item, job, Job, itemOf, items, bodyLength, misfits, sizeIn, laneIn, estimateIn, jobIn, waitIn}
-use Rattle.model.specs.Items.{factorsIn}
-use Rattle.model.specs.Stated.{Stated, noSize, noJob, fixedFactors, statedBy, stated, laneCost, waitAt, arcOf, problemOf}
+use Rattle.model.specs.Items.{factorsIn, defaultIn}
+use Rattle.model.specs.Stated.{Stated, noSize, noJob, fixedFactors, statedBy, stated, default, estimateAt, laneCost, waitAt, arcOf}
+use Rattle.model.specs.Stated.{problemOf}
 use Rattle.model.specs.Refusals.{unknownKind, wrongLength, beginsWithHead, wrongHead, wrongSize, outsideMap, freeArc}
 use Rattle.model.specs.Refusals.{largeEstimate, twoEstimates, wrongMeasure, wrongFactors, wrongWait, endsWithJob, wrongJob}
 use Rattle.model.specs.Refusals.{jobOutsideMap, wrongGoals, goalEstimate}
@@ -33,14 +34,15 @@ record SameStated (s t : Stated) : Type 0 where
   size : s .size ≡ t .size
   lanes : s .lanes ≡ t .lanes
   estimates : s .estimates ≡ t .estimates
+  defaults : s .defaults ≡ t .defaults
   waits : s .waits ≡ t .waits
   factors : s .factors ≡ t .factors
   growth : s .growth ≡ t .growth
   job : SameJob (s .job) (t .job)
 
 same-problem : {s t : Stated} → SameStated s t → problemOf s ≡ problemOf t
-unfolding problemOf laneCost waitAt arcOf
-same-problem e = rw (e .size, e .lanes, e .estimates, e .waits, e .factors, e .growth, e .job .start, e .job .goals) refl
+unfolding problemOf default estimateAt laneCost waitAt arcOf
+same-problem e = rw (e .size, e .lanes, e .estimates, e .defaults, e .waits, e .factors, e .growth, e .job .start, e .job .goals) refl
 
 module _ (is ls : List Item) (j k : Job) (same : SameJob j k) where
   abbrev with : Job → List Item
@@ -61,11 +63,12 @@ module _ (is ls : List Item) (j k : Job) (same : SameJob j k) where
   others f says = rw (filterMap-append f is (job j ∷ ls), filterMap-append f is (job k ∷ ls), says j, says k) refl
 
   same-stated : SameStated (statedBy (with j)) (statedBy (with k))
-  unfolding statedBy sizeIn laneIn estimateIn waitIn factorsIn
+  unfolding statedBy sizeIn laneIn estimateIn waitIn factorsIn defaultIn
   same-stated = record {
     size = ap (λ (l : List Size). headD l noSize) (others sizeIn (λ i. refl));
     lanes = others laneIn (λ i. refl);
     estimates = others estimateIn (λ i. refl);
+    defaults = others defaultIn (λ i. refl);
     waits = others waitIn (λ i. refl);
     factors = ap (λ (l : List (List ℕ)). headD l fixedFactors) (others factorsIn (λ i. refl));
     growth = refl;
@@ -114,7 +117,7 @@ same-rows : {s t : Stated} → SameStated s t → (is hs : List Item) → wrongF
     ≡ sizeRows t ++ (mapRows t ++ (factorRows hs ++ (costRows t ++ jobRows hs t)))
 unfolding sizeRows mapRows factorRows costRows jobRows wrongSize outsideMap freeArc largeEstimate twoEstimates wrongMeasure wrongWait
     jobOutsideMap wrongGoals goalEstimate laneCost waitAt arcOf
-same-rows e is hs factors jobs = rw (e .size, e .lanes, e .estimates, e .waits, e .factors, e .job .start, e .job .goals, factors, jobs) refl
+same-rows e is hs factors jobs = rw (e .size, e .lanes, e .estimates, e .defaults, e .waits, e .factors, e .job .start, e .job .goals, factors, jobs) refl
 
 pub items-with : (rs ls : List Record) (r : Record) (j : Job) → itemOf r ≡ job j → items (rs ++ (r ∷ ls)) ≡ items rs ++ (job j ∷ items ls)
 unfolding items

@@ -13,8 +13,10 @@ pub mod Indices
 pub mod Items
 pub mod Rows
 pub mod Charges
+pub mod Lookups
 pub mod Acceptance
-pub mod OwnTables
+pub mod Taken
+pub mod Defaults
 pub mod Ways
 pub mod Relaxing
 pub mod LeastCosts

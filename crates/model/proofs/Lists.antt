@@ -2,7 +2,7 @@
 use mathlib.Core.Path.{_≡_, refl, sym, _∙_, ap, ap₂}
 use mathlib.Core.Logic.{_↔_, _⊎_, inl, inr, ⊎-elim}
 use mathlib.Core.Bool.{Bool, true, false, cond, not, _&&_, _||_, true≢false, false≢true}
-use mathlib.Core.List.{List, [], _∷_, _++_, map, List·Memᴰ, List·Memᴰ·head, List·Memᴰ·tail, List·Memᴰ·not-nil, List·Memᴰ·cases-cons, Memᴰ·cast}
+use mathlib.Core.List.{List, [], _∷_, _++_, map, headD, List·Memᴰ, List·Memᴰ·head, List·Memᴰ·tail, List·Memᴰ·not-nil, List·Memᴰ·cases-cons, Memᴰ·cast}
 use mathlib.Core.List.{List·Memᴰ·append-cases, List·Memᴰ·eq-of-singleton, Memᴰ·append-left, Memᴰ·append-right}
 use mathlib.Core.Option.{Option, none, some, Option·none-ne-some, Option·some-injective}
 use Prim.Native.Nat.{ℕ, zero, suc, _+_, _≤_, _<_}
@@ -25,6 +25,18 @@ neither false b e = (refl, e)
 pub both : (a b : Bool) → a && b ≡ true → (a ≡ true) × (b ≡ true)
 both true b e = (refl, e)
 both false b e = absurd (false≢true e)
+
+-- the first of a list that has one element at most, and of one that has none
+pub only-one : {A : Type 0} (xs : List A) (d x : A) → length xs ≤ 1 → List·Memᴰ x xs → headD xs d ≡ x
+unfolding headD
+only-one [] d x few i = absurd (List·Memᴰ·not-nil i)
+only-one (y ∷ []) d x few i = sym (List·Memᴰ·eq-of-singleton i)
+only-one (y ∷ z ∷ xs) d x few i = absurd (omega arith)
+
+pub none-first : {A : Type 0} (xs : List A) (d : A) → ((x : A) → List·Memᴰ x xs → ⊥) → headD xs d ≡ d
+unfolding headD
+none-first [] d h = refl
+none-first (x ∷ xs) d h = absurd (h x (List·Memᴰ·head refl))
 
 pub member-length : {A : Type 0} {x : A} {xs : List A} → List·Memᴰ x xs → 1 ≤ length xs
 member-length (List·Memᴰ·head e) = omega arith

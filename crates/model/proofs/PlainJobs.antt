@@ -1,20 +1,21 @@
 -- The job of a problem with 4,096 places, no estimates and one goal states that problem. Assumes nothing.
 use mathlib.Core.Path.{_≡_, refl, sym, ap, ap₂, _∙_}
-use mathlib.Core.Bool.{false}
+use mathlib.Core.Bool.{Bool, true, false, cond}
 use mathlib.Core.List.{List, [], _∷_, _++_, map, headD, append-nil, append-assoc}
 use mathlib.Core.List.{List·Memᴰ, List·Memᴰ·head, List·Memᴰ·tail, List·Memᴰ·not-nil}
 use mathlib.Core.Option.{Option, none}
 use Prim.Native.Nat.{ℕ, _+_, _≤_, _<_}
 use native.Mathlib.Omega.{arith}
 use lib.ListN.{length}
-use Rattle.model.specs.Lists.{filterMap, consIf}
+use Rattle.model.specs.Lists.{filterMap, consIf, member}
 use Rattle.model.specs.Bytes.{Bytes, u16, u32, u16s, put16, put32, put16s}
 use Rattle.model.specs.Framing.{Record, frame, putRecord}
 use Rattle.model.specs.Limits.{maxPlaces, maxArcs}
 use Rattle.model.specs.Problem.{Problem, Arc, Valid}
 use Rattle.model.specs.Items.{headKind, arcKind, jobKind, Lane, flat, Item, head, lane, job, headOf, laneOf, jobOf, itemOf, items}
-use Rattle.model.specs.Items.{sizeIn, laneIn, estimateIn, jobIn, waitIn, factorsIn}
-use Rattle.model.specs.Stated.{Stated, fixedFactors, statedBy, stated, lookup, costUnder, laneCost, waitAt, arcOf, problemOf}
+use Rattle.model.specs.Items.{sizeIn, laneIn, estimateIn, jobIn, waitIn, factorsIn, defaultIn}
+use Rattle.model.specs.Stated.{Stated, fixedFactors, statedBy, stated, lookup, default, estimateAt, costUnder, laneCost, waitAt, arcOf}
+use Rattle.model.specs.Stated.{problemOf}
 use Rattle.model.specs.Jobs.{putHead, putArc, putJob, ample}
 use Rattle.model.proofs.Bytes.{two-bytes, append-bytes, put16-is-bytes, put32-is-bytes, put16s-is-bytes}
 use Rattle.model.proofs.Records.{putRecords, Fits, AllFit, putRecords-is-bytes, frame-records}
@@ -144,6 +145,7 @@ plainStated arcs start goal =
       size = record { places = maxPlaces; arcs = length arcs };
       lanes = map flatLane arcs;
       estimates = [];
+      defaults = [];
       waits = [];
       factors = fixedFactors;
       growth = 2;
@@ -163,11 +165,12 @@ lanes-given [] is = refl
 lanes-given (a ∷ arcs) is = ap {B = List Lane} (λ ls. flatLane a ∷ ls) (lanes-given arcs is)
 
 pub plain-states : (arcs : List Arc) (start goal : ℕ) → statedBy (plainItems arcs start goal) ≡ plainStated arcs start goal
-unfolding plainItems plainStated statedBy filterMap consIf sizeIn laneIn estimateIn jobIn waitIn factorsIn headD
+unfolding plainItems plainStated statedBy filterMap consIf sizeIn laneIn estimateIn jobIn waitIn factorsIn defaultIn headD
 plain-states arcs start goal =
     let last : List Item = job (record { start = start; allowance = ample; goals = goal ∷ [] }) ∷ [] in
     let jobs = lanes-give-none jobIn (λ a. refl) arcs last in
     let estimates = lanes-give-none estimateIn (λ a. refl) arcs last in
+    let defaults = lanes-give-none defaultIn (λ a. refl) arcs last in
     let waits = lanes-give-none waitIn (λ a. refl) arcs last in
     let factors = lanes-give-none factorsIn (λ a. refl) arcs last in
     let lanes = lanes-given arcs last ∙ append-nil (map flatLane arcs) in
@@ -175,6 +178,7 @@ plain-states arcs start goal =
       size = record { places = maxPlaces; arcs = length arcs };
       lanes = lanes i;
       estimates = estimates i;
+      defaults = defaults i;
       waits = waits i;
       factors = headD (factors i) fixedFactors;
       growth = 2;
@@ -193,8 +197,21 @@ arcs-back s no-wait [] = refl
 arcs-back s no-wait (a ∷ arcs) = ap₂ {C = List Arc} _∷_ (plain-arc s no-wait a) (arcs-back s no-wait arcs)
 
 pub plain-problem : (arcs : List Arc) (start goal : ℕ) → problemOf (plainStated arcs start goal) ≡ plain arcs start goal
-unfolding plain problemOf plainStated lookup
-plain-problem arcs start goal = rw (arcs-back (plainStated arcs start goal) refl arcs)
+unfolding plain problemOf plainStated default estimateAt lookup headD
+plain-problem arcs start goal = λ i.
+    record {
+      places = maxPlaces;
+      arcs = arcs-back (plainStated arcs start goal) refl arcs i;
+      estimate = λ v. go (member v (goal ∷ [])) i;
+      start = start;
+      goals = goal ∷ [];
+      growth = 2;
+    }
+  where
+    -- a goal or not
+    go : (t : Bool) → _≡_ {A = ℕ} (cond t 0 0) 0
+    go true = refl
+    go false = refl
 
 -- ---- The fields are read back
 

@@ -1,6 +1,6 @@
 -- Document 01, "Runs by hand": P1 to P10 as rows of one table, and the table as one theorem, computed from the definitions; then runs with
--- several goals, one over lanes of all classes, some where the fewest places decide, some with waits, and some with factors
--- of their own.
+-- several goals, one over lanes of all classes, some where the fewest places decide, some with waits, some with factors of their own, and some with a
+-- default estimate.
 use mathlib.Core.Path.{_≡_, refl}
 use mathlib.Core.Bool.{Bool, true, _&&_}
 use mathlib.Core.List.{List, [], _∷_, _++_}
@@ -10,7 +10,7 @@ use lib.ListN.{length, replicate}
 use Rattle.model.specs.Lists.{sameNumbers}
 use Rattle.model.specs.Bytes.{put16, put32, put16s}
 use Rattle.model.specs.Framing.{putRecord}
-use Rattle.model.specs.Jobs.{putHead, putArc, putMeasured, putEstimate, putWait, putFactors, putJob}
+use Rattle.model.specs.Jobs.{putHead, putArc, putMeasured, putEstimate, putWait, putFactors, putDefault, putJob}
 use Rattle.model.specs.Problem.{Problem}
 use Rattle.model.specs.Costs.{table}
 use Rattle.model.specs.Query.{nextLimit}
@@ -279,3 +279,32 @@ factorRuns =
 factor-runs-agree : agree factorRuns ≡ true
 unfolding compute twoFloors allOnes all16 seven over agrees agree case numbers routeSheetOf factorRuns
 factor-runs-agree = refl
+
+-- Document 02, paper 8: map A without its estimates; records stand before the lanes, between them and behind them.
+ringed : (before between behind : List ℕ) (start : ℕ) (goals : List ℕ) → List ℕ
+ringed before between behind start goals =
+    putHead 4 4 ++ before ++ putArc 0 1 1 ++ putArc 0 2 3 ++ between ++ putArc 1 2 1 ++ putArc 2 3 3 ++ behind ++ putJob start 944 goals
+
+-- their numbers are those of tests/reference.py
+defaultRuns : List Case
+defaultRuns =
+    case (ringed [] [] [] 0 (3 ∷ [])) (numbers 0 5 10 0 13 7 18) 72 sheetA
+    -- wherever it stands; the start's estimate is the first low
+    ∷ case (ringed (putDefault 3) [] [] 0 (3 ∷ [])) (numbers 0 5 10 0 14 8 18) 72 sheetA
+    ∷ case (ringed [] (putDefault 3) [] 0 (3 ∷ [])) (numbers 0 5 10 0 14 8 18) 72 sheetA
+    ∷ case (ringed [] [] (putDefault 3) 0 (3 ∷ [])) (numbers 0 5 10 0 14 8 18) 72 sheetA
+    -- an own estimate of 0 is one
+    ∷ case (ringed (putDefault 3) (putEstimate 0 0) [] 0 (3 ∷ [])) (numbers 0 5 10 0 16 10 18) 72 sheetA
+    -- where every place has its own, a default changes nothing
+    ∷ case (ringed (putDefault 9) (putEstimate 2 3 ++ putEstimate 0 5) (putEstimate 1 4) 0 (3 ∷ [])) (numbers 0 5 10 0 15 9 18) 72 sheetA
+    ∷ case (ringed [] (putEstimate 2 3 ++ putEstimate 0 5) (putEstimate 1 4) 0 (3 ∷ [])) (numbers 0 5 10 0 15 9 18) 72 sheetA
+    -- one that overstates hides the way by 1; the goals keep 0
+    ∷ case (ringed (putDefault 3) [] [] 0 (2 ∷ 3 ∷ [])) (numbers 0 3 3 0 3 3 14) 72 (routeSheetOf 3 (0 ∷ 2 ∷ []))
+    ∷ case (ringed (putDefault 9) [] [] 3 (3 ∷ [])) (numbers 0 0 0 0 0 1 12) 72 sheet6
+    -- P8, whose start has the 7 by default
+    ∷ case (pair ++ putDefault 7 ++ putJob 0 1 (1 ∷ [])) (numbers 17 0 14 0 1 1 6) 34 noRouteFrom0
+    ∷ []
+
+default-runs-agree : agree defaultRuns ≡ true
+unfolding compute ringed pair seven over agrees agree case numbers routeSheetOf sheetA sheet6 noRouteFrom0 defaultRuns
+default-runs-agree = refl

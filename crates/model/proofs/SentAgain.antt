@@ -10,7 +10,7 @@ use borrow.Author.Tests.{eqb-true, not-false}
 use Rattle.model.specs.Lists.{isGiven}
 use Rattle.model.specs.Bytes.{Bytes, u16, u32, put16, put32}
 use Rattle.model.specs.Framing.{Record, Framed, frame, putRecord}
-use Rattle.model.specs.Items.{jobKind, jobBytes, Item, head, lane, estimate, job, wait, ownFactors, other}
+use Rattle.model.specs.Items.{jobKind, jobBytes, Item, head, lane, estimate, job, wait, ownFactors, defaultEstimate, other}
 use Rattle.model.specs.Items.{jobOf, itemOf, items, bodyLength, otherThan, misfits, jobIn}
 use Rattle.model.specs.Stated.{statedIn}
 use Rattle.model.specs.Refusals.{wrongLength, endsWithJob}
@@ -44,6 +44,7 @@ job-kind r = go (itemOf r) (kind-of r)
     go (job j) (is-job k) e = k
     go (wait w) k e = absurd (false≢true e)
     go (ownFactors fs) k e = absurd (false≢true e)
+    go (defaultEstimate x) k e = absurd (false≢true e)
     go other k e = absurd (false≢true e)
 
 -- a job's body of its own length has room for start and allowance

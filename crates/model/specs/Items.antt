@@ -32,6 +32,10 @@ waitKind = 6
 abbrev pub factorsKind : ℕ
 factorsKind = 7
 
+-- one estimate for all places that have none of their own
+abbrev pub defaultKind : ℕ
+defaultKind = 8
+
 -- how many bytes a body has; a job's, before its goals
 abbrev pub headBytes : ℕ
 headBytes = 4
@@ -53,6 +57,9 @@ waitBytes = 4
 
 abbrev pub factorsBytes : ℕ
 factorsBytes = 16
+
+abbrev pub defaultBytes : ℕ
+defaultBytes = 4
 
 -- head: places N, arcs M
 pub record Size : Type 0 where
@@ -89,6 +96,7 @@ pub data Item : Type 0 where
   wait : PlaceValue → Item
   -- factors that replace the fixed ones
   ownFactors : List ℕ → Item
+  defaultEstimate : ℕ → Item
   -- a kind that the papers do not have
   other : Item
 
@@ -120,6 +128,10 @@ waitOf b = record { place = u16 b 0; value = u16 b 2 }
 unfoldable pub factorsOf : List ℕ → List ℕ
 factorsOf b = u16s 8 b 0
 
+-- Document 02, paper 8: "Record kind 8 holds one 4-byte estimate"
+unfoldable pub defaultOf : List ℕ → ℕ
+defaultOf b = u32 b 0
+
 unfoldable pub itemOf : Record → Item
 itemOf r =
     let b = r .body in
@@ -129,7 +141,8 @@ itemOf r =
     (cond (eqb (r .kind) jobKind) (job (jobOf b))
     (cond (eqb (r .kind) measuredKind) (lane (measuredOf b))
     (cond (eqb (r .kind) waitKind) (wait (waitOf b))
-    (cond (eqb (r .kind) factorsKind) (ownFactors (factorsOf b)) other))))))
+    (cond (eqb (r .kind) factorsKind) (ownFactors (factorsOf b))
+    (cond (eqb (r .kind) defaultKind) (defaultEstimate (defaultOf b)) other)))))))
 
 unfoldable pub chargeBytes : Charge → ℕ
 chargeBytes (flat cost) = arcBytes
@@ -143,6 +156,7 @@ bodyLength (estimate e) = some estimateBytes
 bodyLength (job j) = some (jobBytes + 2 * length (j .goals))
 bodyLength (wait w) = some waitBytes
 bodyLength (ownFactors fs) = some factorsBytes
+bodyLength (defaultEstimate x) = some defaultBytes
 bodyLength other = none
 
 unfoldable pub otherThan : Option ℕ → ℕ → Bool
@@ -164,6 +178,7 @@ sizeIn (estimate e) = none
 sizeIn (job j) = none
 sizeIn (wait w) = none
 sizeIn (ownFactors fs) = none
+sizeIn (defaultEstimate x) = none
 sizeIn other = none
 
 unfoldable pub laneIn : Item → Option Lane
@@ -173,6 +188,7 @@ laneIn (estimate e) = none
 laneIn (job j) = none
 laneIn (wait w) = none
 laneIn (ownFactors fs) = none
+laneIn (defaultEstimate x) = none
 laneIn other = none
 
 unfoldable pub estimateIn : Item → Option PlaceValue
@@ -182,6 +198,7 @@ estimateIn (estimate e) = some e
 estimateIn (job j) = none
 estimateIn (wait w) = none
 estimateIn (ownFactors fs) = none
+estimateIn (defaultEstimate x) = none
 estimateIn other = none
 
 unfoldable pub jobIn : Item → Option Job
@@ -191,6 +208,7 @@ jobIn (estimate e) = none
 jobIn (job j) = some j
 jobIn (wait w) = none
 jobIn (ownFactors fs) = none
+jobIn (defaultEstimate x) = none
 jobIn other = none
 
 unfoldable pub waitIn : Item → Option PlaceValue
@@ -200,6 +218,7 @@ waitIn (estimate e) = none
 waitIn (job j) = none
 waitIn (wait w) = some w
 waitIn (ownFactors fs) = none
+waitIn (defaultEstimate x) = none
 waitIn other = none
 
 unfoldable pub factorsIn : Item → Option (List ℕ)
@@ -209,4 +228,15 @@ factorsIn (estimate e) = none
 factorsIn (job j) = none
 factorsIn (wait w) = none
 factorsIn (ownFactors fs) = some fs
+factorsIn (defaultEstimate x) = none
 factorsIn other = none
+
+unfoldable pub defaultIn : Item → Option ℕ
+defaultIn (head s) = none
+defaultIn (lane l) = none
+defaultIn (estimate e) = none
+defaultIn (job j) = none
+defaultIn (wait w) = none
+defaultIn (ownFactors fs) = none
+defaultIn (defaultEstimate x) = some x
+defaultIn other = none

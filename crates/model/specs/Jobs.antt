@@ -8,7 +8,7 @@ use Rattle.model.specs.Lists.{sameNumbers}
 use Rattle.model.specs.Bytes.{put16, put32, put16s}
 use Rattle.model.specs.Framing.{putRecord}
 use Rattle.model.specs.Limits.{maxPlaces, maxCost}
-use Rattle.model.specs.Items.{headKind, arcKind, estimateKind, jobKind, measuredKind, waitKind, factorsKind, Charge, flat, measured, Lane}
+use Rattle.model.specs.Items.{headKind, arcKind, estimateKind, jobKind, measuredKind, waitKind, factorsKind, defaultKind, Charge, flat, measured, Lane}
 use Rattle.model.specs.Stated.{fixedFactors}
 
 unfoldable pub putHead : ℕ → ℕ → List ℕ
@@ -40,6 +40,13 @@ putFactors fs = putRecord factorsKind (put16s fs)
 -- a table of factors, where it is not the fixed one, which holds without a record
 unfoldable pub putTable : List ℕ → List ℕ
 putTable fs = cond (sameNumbers fs fixedFactors) [] (putFactors fs)
+
+unfoldable pub putDefault : ℕ → List ℕ
+putDefault x = putRecord defaultKind (put32 x)
+
+-- a default, where it is not 0, which holds without a record
+unfoldable pub putSomeDefault : ℕ → List ℕ
+putSomeDefault x = cond (eqb x 0) [] (putDefault x)
 
 unfoldable pub putJob : ℕ → ℕ → List ℕ → List ℕ
 putJob start allowance goals =

@@ -65,13 +65,13 @@ isFree (measured length class) = false
 unfoldable pub freeArc : Stated → Bool
 freeArc s = any (λ (l : Lane). isFree (l .charge)) (s .lanes)
 
--- 8: "an estimate above 268,435,455"
+-- 8: "an estimate above 268,435,455"; document 02, paper 8, of a default: "Too large is 8"
 unfoldable pub largeEstimate : Stated → Bool
-largeEstimate s = any (λ (e : PlaceValue). ltb maxEstimate (e .value)) (s .estimates)
+largeEstimate s = any (λ (e : PlaceValue). ltb maxEstimate (e .value)) (s .estimates) || any (ltb maxEstimate) (s .defaults)
 
--- 9: "two estimates for one place"
+-- 9: "two estimates for one place"; of a default: "a second record is 9"
 unfoldable pub twoEstimates : Stated → Bool
-twoEstimates s = repeats (placesIn (s .estimates))
+twoEstimates s = repeats (placesIn (s .estimates)) || ltb 1 (length (s .defaults))
 
 unfoldable pub mismeasured : Charge → Bool
 mismeasured (flat cost) = false
@@ -122,7 +122,7 @@ wrongGoals s =
     let k = length (s .job .goals) in
     ltb k 1 || ltb maxGoals k || not (rises (s .job .goals))
 
--- 13: "a goal has an estimate other than 0"
+-- 13: "a goal has an estimate other than 0", which is one of its own, since of a default goals are excepted
 unfoldable pub goalEstimate : Stated → Bool
 goalEstimate s = any (λ (g : ℕ). not (eqb (lookup 0 (s .estimates) g) 0)) (s .job .goals)
 

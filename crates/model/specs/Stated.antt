@@ -6,17 +6,19 @@ use mathlib.Core.List.{List, [], _∷_, map, headD}
 use Prim.Native.Nat.{ℕ, suc, _+_, _*_, _≤_, _<_}
 use lib.Dec.{eqb}
 use lib.ListN.{length, getD}
-use Rattle.model.specs.Lists.{filterMap}
+use Rattle.model.specs.Lists.{filterMap, member}
 use Rattle.model.specs.Framing.{Record, frame}
 use Rattle.model.specs.Limits.{maxClass, maxFactor}
 use Rattle.model.specs.Problem.{Problem, Arc}
 use Rattle.model.specs.Items.{Size, Charge, flat, measured, Lane, PlaceValue, Job, Item, items}
-use Rattle.model.specs.Items.{sizeIn, laneIn, estimateIn, jobIn, waitIn, factorsIn}
+use Rattle.model.specs.Items.{sizeIn, laneIn, estimateIn, jobIn, waitIn, factorsIn, defaultIn}
 
 pub record Stated : Type 0 where
   pub size : Size
   pub lanes : List Lane
+  -- estimates of places, and for places that have none; of these an accepted input has one at most
   pub estimates : List PlaceValue
+  pub defaults : List ℕ
   pub waits : List PlaceValue
   -- the table of factors, one for each class of lane
   pub factors : List ℕ
@@ -49,6 +51,7 @@ statedBy is =
       size = headD (filterMap sizeIn is) noSize;
       lanes = filterMap laneIn is;
       estimates = filterMap estimateIn is;
+      defaults = filterMap defaultIn is;
       waits = filterMap waitIn is;
       factors = headD (filterMap factorsIn is) fixedFactors;
       growth = 2;
@@ -62,10 +65,19 @@ stated rs = statedBy (items rs)
 abbrev pub statedIn : List ℕ → Stated
 statedIn input = stated (frame input .records)
 
--- the value that is given for v, or the default where none is
+-- the value that is given for v, or d where none is
 unfoldable pub lookup : ℕ → List PlaceValue → ℕ → ℕ
-lookup default [] v = default
-lookup default (e ∷ es) v = cond (eqb (e .place) v) (e .value) (lookup default es v)
+lookup d [] v = d
+lookup d (e ∷ es) v = cond (eqb (e .place) v) (e .value) (lookup d es v)
+
+-- "one 4-byte estimate for all places that have none of their own"; without a record for it, 0
+unfoldable pub default : Stated → ℕ
+default s = headD (s .defaults) 0
+
+-- "A place without an estimate has 0." Document 02, paper 8: "The lookup of an estimate now answers with this default", "goals excepted, which
+-- keep 0".
+unfoldable pub estimateAt : Stated → ℕ → ℕ
+estimateAt s v = cond (member v (s .job .goals)) 0 (lookup (default s) (s .estimates) v)
 
 -- What a lane costs under a table of factors: "length times the factor of the class".
 unfoldable pub costUnder : List ℕ → Charge → ℕ
@@ -85,13 +97,12 @@ waitAt s v = lookup 0 (s .waits) v
 unfoldable pub arcOf : Stated → Lane → Arc
 arcOf s l = record { from = l .from; to = l .to; cost = laneCost s l + waitAt s (l .from) }
 
--- "A place without an estimate has 0."
 unfoldable pub problemOf : Stated → Problem
 problemOf s =
     record {
       places = s .size .places;
       arcs = map (arcOf s) (s .lanes);
-      estimate = λ v. lookup 0 (s .estimates) v;
+      estimate = estimateAt s;
       start = s .job .start;
       goals = s .job .goals;
       growth = s .growth;

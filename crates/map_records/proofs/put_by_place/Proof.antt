@@ -9,25 +9,25 @@ use Rattle.map_records.proofs.put_by_place.Statement.{statement}
 use Rattle.map_records.proofs.put_by_place.Tie as tie
 
 abbrev Inv-loop : tie.InvT-loop
-Inv-loop out₀ start kind words at₀ v₀ out at v =
-    (v ≤ length words) × Putting (putByPlace kind 0 words) (putByPlace kind v (drop v words)) start out₀ out at
+Inv-loop out₀ start kind unless words at₀ v₀ out at v =
+    (v ≤ length words) × Putting (putByPlace kind unless 0 words) (putByPlace kind unless v (drop v words)) start out₀ out at
 
 abbrev μ-loop : tie.MeasureT-loop
-μ-loop out₀ start kind words at₀ v₀ out at v = length words - v
+μ-loop out₀ start kind unless words at₀ v₀ out at v = length words - v
 
 loop-holds : tie.Need-loop-holds Inv-loop μ-loop
 loop-holds c = (omega arith, all-left (c .before .before .pre .1))
 
-mul-put-nonzero : tie.Need-mul-put-nonzero Inv-loop μ-loop
-mul-put-nonzero c = search needs
+mul-put-unless : tie.Need-mul-put-unless Inv-loop μ-loop
+mul-put-unless c = search needs
 
-shared-slice-read-put-nonzero : tie.Need-shared-slice-read-put-nonzero Inv-loop μ-loop
-shared-slice-read-put-nonzero c = search needs
+shared-slice-read-put-unless : tie.Need-shared-slice-read-put-unless Inv-loop μ-loop
+shared-slice-read-put-unless c = search needs
 
-put-nonzero-requires : tie.Need-put-nonzero-requires Inv-loop μ-loop
-put-nonzero-requires c κs =
+put-unless-requires : tie.Need-put-unless-requires Inv-loop μ-loop
+put-unless-requires c κs =
     let l = c .before .before .before .loop in
-    (omega (arith, c .before .before .before .before .before .before .pre .0), next-fits (by-place-from _ _ (l .v) (omega arith)) (l .inv .1))
+    (omega (arith, c .before .before .before .before .before .before .pre .0), next-fits (by-place-from _ _ _ (l .v) (omega arith)) (l .inv .1))
 
 add-v : tie.Need-add-v Inv-loop μ-loop
 add-v c = search needs
@@ -38,7 +38,7 @@ loop-less c = search needs
 loop-again : tie.Need-loop-again Inv-loop μ-loop
 loop-again c =
     let l = c .before .before .before .before .before .before .loop in
-    (omega arith, next-put (by-place-from _ _ (l .v) (omega arith)) (l .inv .1) (c .before .before .put-nonzero .ensures))
+    (omega arith, next-put (by-place-from _ _ _ (l .v) (omega arith)) (l .inv .1) (c .before .before .put-unless .ensures))
 
 same-length : tie.Need-same-length Inv-loop μ-loop
 same-length c = search needs
@@ -46,7 +46,7 @@ same-length c = search needs
 returns : tie.Need-returns Inv-loop μ-loop
 returns c =
     let l = c .before .loop in
-    none-left (by-place-done _ _ (l .v) (omega arith)) (l .inv .1)
+    none-left (by-place-done _ _ _ (l .v) (omega arith)) (l .inv .1)
 
 pub put-by-place-spec : {M : Type 1} → statement M
 put-by-place-spec =
@@ -55,9 +55,9 @@ put-by-place-spec =
     Inv-loop
     μ-loop
     loop-holds
-    mul-put-nonzero
-    shared-slice-read-put-nonzero
-    put-nonzero-requires
+    mul-put-unless
+    shared-slice-read-put-unless
+    put-unless-requires
     add-v
     loop-less
     loop-again

@@ -1,15 +1,16 @@
--- Head, lanes, estimates, waits, table and job, each where the one before it ends: what is left has room.
+-- Head, lanes, estimates, waits, table, default and job, each where the one before it ends: what is left has room.
 use mathlib.Core.Path.{_∙_}
 use mathlib.Core.List.{List}
 use Prim.Native.Nat.{ℕ}
 use native.Mathlib.Omega.{arith}
 use borrow.Author.Needs.{needs}
 use Rattle.model.specs.Items.{estimateKind, waitKind}
+use Rattle.model.specs.Jobs.{putTable, putSomeDefault}
 use Rattle.map.specs.declared.Job.{Job}
 use Rattle.area.specs.Part.{part}
 use Rattle.map_records.specs.Puts.{putLanes, putByPlace, putJobOf, mapText}
-use Rattle.map_records.proofs.PutLoops.{Putting, next-fits, next-put, table-next, part-next}
-use Rattle.map_records.proofs.PutLoops.{afterHead, afterLanes, afterEstimates, afterWaits, head-fits, head-put, few-words}
+use Rattle.map_records.proofs.PutLoops.{Putting, next-fits, next-put, first-next, part-next}
+use Rattle.map_records.proofs.PutLoops.{afterHead, afterLanes, afterEstimates, afterWaits, afterTable, head-fits, head-put, few-words}
 use Rattle.map_records.proofs.put_map.Statement.{statement}
 use Rattle.map_records.proofs.put_map.Tie as tie
 
@@ -32,6 +33,9 @@ estimated c = c .before .before .before .before .before
 abbrev waited : tie.After-put-table → tie.After-put-by-place2
 waited c = c .before .before .before .before
 
+abbrev tabled : tie.After-put-default → tie.After-put-table
+tabled c = c .before .before .before .before
+
 -- of the map this is left to be put
 abbrev Left : (List ℕ → Job → List ℕ → List ℕ) → tie.Start → List ℕ → ℕ → Type 0
 Left rest s out at =
@@ -53,7 +57,7 @@ unfolding part afterLanes
 after-estimates c =
     let r = regions c in
     let first = r .before .before .before .estimates-at .ensures in
-    let next = part-next (putByPlace estimateKind 0) _ _ first (r .before .before .goals-at .ensures) in
+    let next = part-next (putByPlace estimateKind _ 0) _ _ first (r .before .before .goals-at .ensures) in
     next-put next (after-lanes (laned r)) (c .put-by-place .ensures)
 
 after-waits : (c : tie.After-put-by-place2)
@@ -61,12 +65,19 @@ after-waits : (c : tie.After-put-by-place2)
 unfolding part afterEstimates
 after-waits c =
     let r = regions (estimated c) in
-    let next = part-next (putByPlace waitKind 0) _ _ (r .before .waits-at .ensures) (r .ends-at .ensures) in
+    let next = part-next (putByPlace waitKind 0 0) _ _ (r .before .waits-at .ensures) (r .ends-at .ensures) in
     next-put next (after-estimates (estimated c)) (c .put-by-place2 .ensures)
 
 after-table : (c : tie.After-put-table)
-    → Left (λ input j w. putJobOf input j) (entry (headed (laned (regions (estimated (waited c)))))) (c .put-table .last .0) (c .put-table .result)
-after-table c = next-put (table-next _ _ _) (after-waits (waited c)) (c .put-table .ensures)
+    → Left afterTable (entry (headed (laned (regions (estimated (waited c)))))) (c .put-table .last .0) (c .put-table .result)
+unfolding afterWaits
+after-table c = next-put (first-next _ _) (after-waits (waited c)) (c .put-table .ensures)
+
+after-default : (c : tie.After-put-default)
+    → Left (λ input j w. putJobOf input j) (entry (headed (laned (regions (estimated (waited (tabled c)))))))
+    (c .put-default .last .0) (c .put-default .result)
+unfolding afterTable
+after-default c = next-put (first-next _ _) (after-table (tabled c)) (c .put-default .ensures)
 
 put-head-requires : tie.Need-put-head-requires
 put-head-requires c κs =
@@ -131,7 +142,7 @@ put-by-place-requires c κs =
     let first = r .before .before .before .estimates-at .ensures in
     let last = r .before .before .goals-at .ensures in (
       few-words (entry (headed (laned r)) .pre) first last (omega arith) (omega arith),
-      next-fits (part-next (putByPlace estimateKind 0) _ _ first last) (after-lanes (laned r)),
+      next-fits (part-next (putByPlace estimateKind _ 0) _ _ first last) (after-lanes (laned r)),
     )
 
 mul-put-by-place-2 : tie.Need-mul-put-by-place-2
@@ -154,26 +165,31 @@ put-by-place-requires-2 c κs =
     let first = r .before .waits-at .ensures in
     let last = r .ends-at .ensures in (
       few-words (entry (headed (laned r)) .pre) first last (omega arith) (omega arith),
-      next-fits (part-next (putByPlace waitKind 0) _ _ first last) (after-estimates estimates),
+      next-fits (part-next (putByPlace waitKind 0 0) _ _ first last) (after-estimates estimates),
     )
 
 put-table-requires : tie.Need-put-table-requires
+unfolding afterWaits
 put-table-requires c κs =
     let waits = c .before .before .before in
-    (entry (headed (laned (regions (estimated waits)))) .pre .factors, next-fits (table-next _ _ _) (after-waits waits))
+    (entry (headed (laned (regions (estimated waits)))) .pre .factors, next-fits (first-next (putTable _) _) (after-waits waits))
+
+put-default-requires : tie.Need-put-default-requires
+unfolding afterTable
+put-default-requires c κs = next-fits (first-next (putSomeDefault _) _) (after-table (c .before .before .before))
 
 put-job-requires : tie.Need-put-job-requires
 put-job-requires c κs =
-    let table = c .before .before .before in
-    (entry (headed (laned (regions (estimated (waited table))))) .pre .goals, after-table table .room)
+    let default = c .before .before .before in
+    (entry (headed (laned (regions (estimated (waited (tabled default)))))) .pre .goals, after-default default .room)
 
 same-length : tie.Need-same-length
 same-length c =
     let job = c .before .before in
-    job .put-job .kept .0 ∙ after-table (job .before .before .before .before) .size
+    job .put-job .kept .0 ∙ after-default (job .before .before .before .before) .size
 
 returns : tie.Need-returns
-returns c = after-table (c .before .before .before .before .before .before) .whole (c .before .before .put-job .ensures)
+returns c = after-default (c .before .before .before .before .before .before) .whole (c .before .before .put-job .ensures)
 
 pub put-map-spec : {M : Type 1} → statement M
 put-map-spec =
@@ -203,6 +219,7 @@ put-map-spec =
     part-put-by-place-end-2
     put-by-place-requires-2
     put-table-requires
+    put-default-requires
     put-job-requires
     same-length
     returns)

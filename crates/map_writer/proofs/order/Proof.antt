@@ -29,13 +29,13 @@ place-records-requires c κs =
     let p = c .before .before .before .before .before in
     let known = facts (start p) in
     let said = c .before .before .factors .ensures ∙ known .states .factors .are in
-    can-place _ _ _ known _ (p .prepare .kept .1 .1 .0) (p .prepare .ensures) said
+    can-place _ _ _ known _ (p .prepare .kept .1 .1 .1 .0) (p .prepare .ensures) said
 
 sort-rows-requires : tie.Need-sort-rows-requires
 sort-rows-requires c κs =
     let q = c .before .before .before in
     let p = before q in
-    let placed = has-rows _ _ _ (facts (start p)) _ (p .prepare .kept .1 .1 .0) (p .prepare .ensures) _ (q .place-records .kept .1 .1 .1 .0) in
+    let placed = has-rows _ _ _ (facts (start p)) _ (p .prepare .kept .1 .1 .1 .0) (p .prepare .ensures) _ (q .place-records .kept .1 .1 .1 .0) in
     placed (q .place-records .ensures)
 
 same-length : tie.Need-same-length
@@ -46,7 +46,7 @@ returns c =
     let r = c .before .before in
     let q = r .before .before .before .before in
     let p = before q in
-    let placed = ordered _ _ _ (facts (start p)) _ (p .prepare .kept .1 .1 .0) (p .prepare .ensures) _ (q .place-records .kept .1 .1 .1 .0) in
+    let placed = ordered _ _ _ (facts (start p)) _ (p .prepare .kept .1 .1 .1 .0) (p .prepare .ensures) _ (q .place-records .kept .1 .1 .1 .0) in
     placed (q .place-records .ensures) _ (r .sort-rows .ensures)
 
 pub order-spec : {M : Type 1} → statement M

@@ -1,6 +1,6 @@
 -- `survey::with_item` meets its contract, kind by kind. Assumes nothing.
 use mathlib.Core.Path.{refl}
-use Rattle.judge.specs.Survey.{noted, marksBy}
+use Rattle.judge.specs.Survey.{noted, againIn, marksBy}
 use borrow.Author.Needs.{needs}
 use Rattle.judge.proofs.survey.with_item.Statement.{statement}
 use Rattle.judge.proofs.survey.with_item.Tie as tie
@@ -50,6 +50,12 @@ with-factors-requires c κs = search needs
 enum-known-item-7 : tie.Need-enum-known-item-7
 enum-known-item-7 c = search needs
 
+with-default-requires : tie.Need-with-default-requires
+with-default-requires c κs = search needs
+
+enum-known-item-8 : tie.Need-enum-known-item-8
+enum-known-item-8 c = search needs
+
 with-job-requires : tie.Need-with-job-requires
 with-job-requires c κs = search needs
 
@@ -93,16 +99,20 @@ unfolding noted marksBy
 returns-6 c = rw (c .before .before .item6 .given .1) (record { survey = c .with-factors .ensures; mark = refl })
 
 returns-7 : tie.Need-returns-7
-unfolding noted marksBy
-returns-7 c = rw (c .before .before .item7 .given .1) (record { survey = c .with-job .ensures; mark = refl })
+unfolding noted againIn marksBy
+returns-7 c = rw (c .before .before .item7 .given .1) (record { survey = c .with-default .ensures; mark = refl })
 
 returns-8 : tie.Need-returns-8
 unfolding noted marksBy
-returns-8 c = rw (c .before .enum-told .given .1) (record { survey = c .after .ensures; mark = refl })
+returns-8 c = rw (c .before .before .item8 .given .1) (record { survey = c .with-job .ensures; mark = refl })
 
 returns-9 : tie.Need-returns-9
 unfolding noted marksBy
-returns-9 c = rw (c .before .enum-told2 .given .1) (record { survey = c .after2 .ensures; mark = refl })
+returns-9 c = rw (c .before .enum-told .given .1) (record { survey = c .after .ensures; mark = refl })
+
+returns-10 : tie.Need-returns-10
+unfolding noted marksBy
+returns-10 c = rw (c .before .enum-told2 .given .1) (record { survey = c .after2 .ensures; mark = refl })
 
 pub with-item-spec : {M : Type 1} → statement M
 with-item-spec =
@@ -123,6 +133,8 @@ with-item-spec =
     enum-known-item-6
     with-factors-requires
     enum-known-item-7
+    with-default-requires
+    enum-known-item-8
     with-job-requires
     enum-told
     after-requires
@@ -136,4 +148,5 @@ with-item-spec =
     returns-6
     returns-7
     returns-8
-    returns-9)
+    returns-9
+    returns-10)

@@ -33,7 +33,7 @@ returns-2 c =
     let job = c .new .ensures in
     accepted _ _ _ (start .before .before .before .before .pre) _ (start .before .of .ensures) _ (start .index32 .ensures)
     _ (d .wrong-goals .ensures) _ (c .before .before .goals-number .ensures) (c .before .if1 .left) _ (job .0) (job .1) (job .2) (job .3)
-    (job .4)
+    (job .4) (job .5)
 
 pub judge-job-spec : {M : Type 1} → statement M
 judge-job-spec =

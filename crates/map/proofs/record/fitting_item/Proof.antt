@@ -1,10 +1,11 @@
 -- `record::fitting_item` meets its contract, kind by kind: the kind says how long the body is. Assumes nothing.
 use mathlib.Core.Path.{sym, _∙_}
 use mathlib.Core.Bool.{true≢false}
+use native.Mathlib.Omega.{arith}
 use borrow.Author.Needs.{needs}
 use Rattle.map.specs.Items.{FitsIn}
-use Rattle.map.proofs.Items.{body-within, lane-says, measured-says, estimate-says, wait-says, factors-says, head-says, job-says, other-says}
-use Rattle.map.proofs.Items.{lane-fits, measured-fits, estimate-fits, wait-fits, factors-fits, head-fits}
+use Rattle.map.proofs.Items.{body-within, lane-says, measured-says, estimate-says, wait-says, factors-says, default-says, head-says, job-says}
+use Rattle.map.proofs.Items.{other-says, lane-fits, measured-fits, estimate-fits, wait-fits, factors-fits, default-fits, head-fits}
 use Rattle.map.proofs.record.fitting_item.Statement.{statement}
 use Rattle.map.proofs.record.fitting_item.Tie as tie
 
@@ -26,6 +27,9 @@ no-wait c = c .before .before
 
 abbrev no-head : tie.Else6 → tie.Else5
 no-head c = c .before .before
+
+abbrev no-job : tie.Else7 → tie.Else6
+no-job c = c .before .before
 
 sub-len : tie.Need-sub-len
 sub-len c = search needs
@@ -82,9 +86,20 @@ returns-6 c =
 returns-7 : tie.Need-returns-7
 returns-7 c = factors-says _ _ (can (no-arc (no-measured (no-estimate (no-wait (no-head (c .before .before)))))) .lies) (c .if7 .taken)
 
+u32-at-requires : tie.Need-u32-at-requires
+u32-at-requires c κs =
+    let known = no-arc (no-measured (no-estimate (no-wait (no-head (no-job (c .before .before)))))) in
+    omega (arith, body-within _ _ (can known .lies) _ _ (c .if8 .taken))
+
 returns-8 : tie.Need-returns-8
 returns-8 c =
-    let job = c .before .before in
+    let known = no-arc (no-measured (no-estimate (no-wait (no-head (no-job (c .before .before .before)))))) in
+    rw (c .u32-at .ensures) (default-says _ _ (can known .lies) (c .before .if8 .taken))
+
+returns-9 : tie.Need-returns-9
+returns-9 c =
+    let factors = c .before .before in
+    let job = no-job factors in
     let head = no-head job in
     let wait = no-wait head in
     let estimate = no-estimate wait in
@@ -92,7 +107,8 @@ returns-8 c =
     let arc = no-arc measured in
     let f = can arc in
     other-says _ _ (f .lies) (head .if5 .left) (arc .if1 .left) (estimate .if3 .left) (job .if6 .left) (measured .if2 .left)
-    (λ k. true≢false (sym (wait-fits _ _ f k) ∙ wait .if4 .left)) (λ k. true≢false (sym (factors-fits _ _ f k) ∙ c .if7 .left))
+    (λ k. true≢false (sym (wait-fits _ _ f k) ∙ wait .if4 .left)) (λ k. true≢false (sym (factors-fits _ _ f k) ∙ factors .if7 .left))
+    (λ k. true≢false (sym (default-fits _ _ f k) ∙ c .if8 .left))
 
 pub fitting-item-spec : {M : Type 1} → statement M
 fitting-item-spec =
@@ -112,4 +128,6 @@ fitting-item-spec =
     job-at-requires
     returns-6
     returns-7
-    returns-8)
+    u32-at-requires
+    returns-8
+    returns-9)

@@ -1,8 +1,9 @@
 -- `record::item_of` meets its contract, kind by kind. Assumes nothing.
+use native.Mathlib.Omega.{arith}
 use borrow.Author.Needs.{needs}
 use Rattle.map.specs.Items.{LiesIn}
-use Rattle.map.proofs.Items.{body-within, lane-says, measured-says, estimate-says, wait-says, factors-says, head-says, job-says, outside-says}
-use Rattle.map.proofs.Items.{none-fits}
+use Rattle.map.proofs.Items.{body-within, lane-says, measured-says, estimate-says, wait-says, factors-says, default-says, head-says, job-says}
+use Rattle.map.proofs.Items.{outside-says, none-fits}
 use Rattle.map.proofs.record.item_of.Statement.{statement}
 use Rattle.map.proofs.record.item_of.Tie as tie
 
@@ -27,6 +28,9 @@ no-head c = c .before .before
 
 abbrev no-job : tie.Else7 → tie.Else6
 no-job c = c .before .before
+
+abbrev no-factors : tie.Else8 → tie.Else7
+no-factors c = c .before .before
 
 sub-len : tie.Need-sub-len
 sub-len c = search needs
@@ -74,20 +78,33 @@ returns-6 c =
 returns-7 : tie.Need-returns-7
 returns-7 c = factors-says _ _ (lies (no-arc (no-measured (no-estimate (no-wait (no-head (c .before .before))))))) (c .if7 .taken)
 
+u32-at-requires : tie.Need-u32-at-requires
+u32-at-requires c κs =
+    let known = no-arc (no-measured (no-estimate (no-wait (no-head (no-job (c .before .before)))))) in
+    omega (arith, body-within _ _ (lies known) _ _ (c .if8 .taken))
+
 returns-8 : tie.Need-returns-8
-returns-8 c = outside-says _ _ (lies (no-arc (no-measured (no-estimate (no-wait (no-head (no-job (c .before .before .before)))))))) (c .if8 .taken)
+returns-8 c =
+    let known = no-arc (no-measured (no-estimate (no-wait (no-head (no-job (c .before .before .before)))))) in
+    rw (c .u32-at .ensures) (default-says _ _ (lies known) (c .before .if8 .taken))
 
 returns-9 : tie.Need-returns-9
 returns-9 c =
-    let factors = c .before .before .before in
+    let known = no-arc (no-measured (no-estimate (no-wait (no-head (no-job (no-factors (c .before .before .before))))))) in
+    outside-says _ _ (lies known) (c .if9 .taken)
+
+returns-10 : tie.Need-returns-10
+returns-10 c =
+    let default = c .before .before .before in
+    let factors = no-factors default in
     let job = no-job factors in
     let head = no-head job in
     let wait = no-wait head in
     let estimate = no-estimate wait in
     let measured = no-measured estimate in
     let arc = no-arc measured in
-    none-fits _ _ (lies arc) (c .if8 .left) (job .if6 .left) (head .if5 .left) (arc .if1 .left) (estimate .if3 .left) (measured .if2 .left)
-    (wait .if4 .left) (factors .if7 .left)
+    none-fits _ _ (lies arc) (c .if9 .left) (job .if6 .left) (head .if5 .left) (arc .if1 .left) (estimate .if3 .left) (measured .if2 .left)
+    (wait .if4 .left) (factors .if7 .left) (default .if8 .left)
 
 pub item-of-spec : {M : Type 1} → statement M
 item-of-spec =
@@ -107,5 +124,7 @@ item-of-spec =
     job-at-requires
     returns-6
     returns-7
+    u32-at-requires
     returns-8
-    returns-9)
+    returns-9
+    returns-10)
