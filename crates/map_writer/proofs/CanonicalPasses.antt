@@ -1,7 +1,7 @@
 -- The canonical form of what passes the conditions passes them too, and fits in the bytes of its records. Assumes nothing.
-use mathlib.Core.Path.{_≡_, refl, sym, _∙_}
+use mathlib.Core.Path.{_≡_, sym, _∙_}
 use mathlib.Core.Bool.{Bool, false, _||_, true≢false}
-use mathlib.Core.List.{List, [], _∷_, headD, List·Memᴰ, List·Memᴰ·head}
+use mathlib.Core.List.{List, List·Memᴰ}
 use Prim.Native.Nat.{ℕ, _^_, _≤_, _<_}
 use native.Mathlib.Omega.{arith}
 use lib.Dec.{ltb, leb, eqb}

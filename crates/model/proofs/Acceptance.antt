@@ -1,13 +1,13 @@
 -- What acceptance gives: each condition is false, and the problem is valid. Assumes nothing.
-use mathlib.Core.Path.{_≡_, refl, sym}
+use mathlib.Core.Path.{_≡_, refl}
 use mathlib.Core.Bool.{Bool, true, false, cond}
-use mathlib.Core.List.{List, [], _∷_, headD, List·Memᴰ, List·Memᴰ·head, List·Memᴰ·tail, List·Memᴰ·not-nil, Memᴰ·of-map}
+use mathlib.Core.List.{List, [], _∷_, headD, List·Memᴰ, List·Memᴰ·head, Memᴰ·of-map}
 use mathlib.Core.Option.{Option, some}
 use Prim.Native.Nat.{ℕ, _≤_, _<_}
 use native.Mathlib.Omega.{arith}
-use lib.Dec.{ltb, leb, eqb}
+use lib.Dec.{ltb, leb}
 use lib.ListN.{length}
-use borrow.Author.Tests.{ltb-false, leb-false, eqb-true, not-false}
+use borrow.Author.Tests.{ltb-false, leb-false}
 use Rattle.model.specs.Bytes.{Bytes}
 use Rattle.model.specs.Lists.{any, filterMap, member, repeats}
 use Rattle.model.specs.Framing.{Record, frame}
@@ -18,7 +18,7 @@ use Rattle.model.specs.Items.{factorsOf, itemOf, items, laneIn, waitIn, 
 use Rattle.model.specs.Stated.{Stated, fixedFactors, IsTable, statedBy, stated, statedIn, default, estimateAt, laneCost, arcOf, problemOf}
 use Rattle.model.specs.Refusals.{wrongSize, outsideMap, freeArc, largeEstimate, wrongMeasure, breaksRules, wrongFactors, placesIn}
 use Rattle.model.specs.Refusals.{wrongWait}
-use Rattle.model.specs.Refusals.{jobOutsideMap, wrongGoals, goalEstimate}
+use Rattle.model.specs.Refusals.{jobOutsideMap, wrongGoals}
 use Rattle.model.specs.Refusals.{formRows, sizeRows, mapRows, factorRows, costRows, jobRows, inputRows, roomRows, rows, holdsAt}
 use Rattle.model.specs.Refusals.{refusal, Accepted}
 use Rattle.model.proofs.Lists.{none-some, neither, any-false, filterMap-member, member-true, only-one, none-first}
@@ -159,7 +159,7 @@ goal-estimate s g i = rw (member-true g (s .job .goals) .1 i)
 -- each condition is found by its number
 pub accepted-valid : (input : List ℕ) (words bytes : ℕ) → Accepted input words bytes → Valid (problemOf (statedIn input))
 unfolding problemOf laneCost arcOf rows inputRows formRows sizeRows mapRows factorRows costRows jobRows roomRows holdsAt
-    wrongSize outsideMap freeArc largeEstimate wrongMeasure wrongWait jobOutsideMap wrongGoals goalEstimate refusal
+    wrongSize outsideMap freeArc wrongMeasure wrongWait jobOutsideMap wrongGoals refusal
 accepted-valid input words bytes A =
     let f = frame input in
     let s = stated (f .records) in
@@ -185,6 +185,6 @@ accepted-valid input words bytes A =
       start-below = leb-false _ _ (job .0);
       some-goal = some-member (p .goals) (ltb-false _ _ (neither _ _ (neither _ _ (no 12) .0) .0));
       goal-below = λ g i. leb-false _ _ (any-false _ _ (job .1) g i);
-      goal-estimate = λ g i. goal-estimate s g i;
+      goal-estimate = goal-estimate s;
       grows = rw (states-growth (f .records)) (omega arith);
     }

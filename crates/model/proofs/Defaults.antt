@@ -1,6 +1,6 @@
 -- What the places of an accepted input have for estimates: their own, or the default, and goals 0. Assumes nothing.
 use mathlib.Core.Path.{_≡_, refl, sym, _∙_}
-use mathlib.Core.Bool.{Bool, true, false, cond, true≢false}
+use mathlib.Core.Bool.{Bool, true, false, cond}
 use mathlib.Core.List.{List, List·Memᴰ}
 use mathlib.Core.Option.{some}
 use Prim.Native.Nat.{ℕ, _≤_}
@@ -14,7 +14,7 @@ use Rattle.model.specs.Refusals.{twoEstimates, goalEstimate, placesIn}
 use Rattle.model.specs.Refusals.{formRows, sizeRows, mapRows, factorRows, costRows, jobRows, inputRows, rows, holdsAt, Accepted}
 use Rattle.model.proofs.Lists.{none-some, neither, any-false, filterMap-member, member-true, only-one, none-first}
 use Rattle.model.proofs.Lookups.{lookup-absent, lookup-own}
-use Rattle.model.proofs.Acceptance.{accepted-row, goal-estimate}
+use Rattle.model.proofs.Acceptance.{accepted-row}
 
 estimate-is : (i : Item) (e : PlaceValue) → estimateIn i ≡ some e → i ≡ estimate e
 unfolding estimateIn
