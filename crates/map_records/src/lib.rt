@@ -229,8 +229,8 @@ fn put_job(out: &mut [u8], at: usize, input: &[u8], job: Job) -> usize
     at + HEADER + body
 }
 
-// The map that the words hold: lanes in the order of their keys, estimates and waits by place; then its factors, its default and the job. Where the word of an
-// estimate is the default, it has no record.
+// The map that the words hold: lanes in the order of their keys, estimates and waits by place; then its factors, its default and the job. An estimate that is
+// the default has no record.
 pub fn put_map(out: &mut [u8], input: &[u8], job: Job, work: &[u32]) -> usize
     requires { ⌜ Puttable (now input) job (now work) (now out) ⌝ }
     ensures { λ r. ⌜ Put (mapText (now (input .entry)) job (now (work .entry))) 0 (now (out .entry)) (now (out .exit)) r ⌝ }
