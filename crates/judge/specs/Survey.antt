@@ -36,6 +36,7 @@ measureNumber length class = cond (ltb length 1 || ltb maxLength length || ltb m
 abbrev pub laneNumber : Bool → (n from to own : ℕ) → ℕ
 laneNumber first n from to own = cond first 4 (cond (leb n from || leb n to) 6 own)
 
+-- of a place or as a default alike
 abbrev pub valueNumber : Bool → ℕ → ℕ
 valueNumber again value = cond (ltb maxEstimate value) 8 (cond again 9 noNumber)
 

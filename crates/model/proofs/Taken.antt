@@ -23,6 +23,14 @@ use Rattle.model.proofs.Bytes.{put16s-length, u16s-put16s, u32-put32, a
 use Rattle.model.proofs.Records.{putRecords, Fits, AllFit, frame-records}
 use Rattle.model.proofs.Charges.{table-passes}
 
+-- opens the conditions, which are then computed of three items
+unfoldable conditions : Unit {0}
+unfolding refusal rows inputRows formRows sizeRows mapRows factorRows costRows jobRows roomRows firstThatHolds stated statedBy headD
+    unknownKind beginsWithHead wrongHead wrongSize outsideMap freeArc largeEstimate twoEstimates wrongMeasure wrongFactors wrongWait endsWithJob
+    wrongJob jobOutsideMap wrongGoals goalEstimate shortWork shortSheet bodyLength sizeIn laneIn estimateIn jobIn waitIn factorsIn defaultIn
+    filterMap consIf isGiven any repeats rises lookup
+conditions = tt
+
 -- one place, the record, and a job from the place to itself
 unfoldable pub recordsWith : Record → List Record
 recordsWith r =
@@ -93,10 +101,7 @@ module _ (fs : List ℕ) (table : IsTable fs) where
   right-table = rw (put16s-length fs, table .eight)
 
   pub tables-accepted : Accepted (putRecords (tableRecords fs)) 16 12
-  unfolding refusal rows inputRows formRows sizeRows mapRows factorRows costRows jobRows roomRows firstThatHolds stated statedBy headD
-      unknownKind beginsWithHead wrongHead wrongSize outsideMap freeArc largeEstimate twoEstimates wrongMeasure wrongFactors wrongWait endsWithJob
-      wrongJob jobOutsideMap wrongGoals goalEstimate shortWork shortSheet bodyLength sizeIn laneIn estimateIn jobIn waitIn factorsIn defaultIn
-      filterMap consIf isGiven any repeats rises lookup
+  unfolding conditions
   tables-accepted =
       let r = tableRecord fs in
       rw (
@@ -141,10 +146,7 @@ module _ (x : ℕ) (small : x ≤ maxEstimate) where
 
   -- though its only place is a goal
   pub defaults-accepted : Accepted (putRecords (defaultRecords x)) 16 12
-  unfolding refusal rows inputRows formRows sizeRows mapRows factorRows costRows jobRows roomRows firstThatHolds stated statedBy headD
-      unknownKind beginsWithHead wrongHead wrongSize outsideMap freeArc largeEstimate twoEstimates wrongMeasure wrongFactors wrongWait endsWithJob
-      wrongJob jobOutsideMap wrongGoals goalEstimate shortWork shortSheet bodyLength sizeIn laneIn estimateIn jobIn waitIn factorsIn defaultIn
-      filterMap consIf isGiven any repeats rises lookup
+  unfolding conditions
   defaults-accepted =
       let r = defaultRecord x in
       rw (
