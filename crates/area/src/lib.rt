@@ -1,4 +1,6 @@
 // Little-endian fields of 2 and 4 bytes in a slice of bytes, and slices of words.
+#![tactic(auto)]
+
 ghost use Rattle.std.specs.Prelude.{◌≡◌, ◌+◌, ◌<◌, ◌≤◌, length, replicate};
 ghost use Rattle.std.proofs.lemmas.List.Edits.{sets};
 ghost use Rattle.model.specs.Bytes.{u16, u32, put16 as bytes16, put32 as bytes32};

@@ -29,10 +29,13 @@ use Rattle.model.proofs.LeastPaths.{route_within}
 
 -- an arc in front of a walk
 pub arc_then : {p : Problem} {v e : ℕ} (a : Arc) → IsArc p a → Walk p a.to v e → Walk p a.from v (a.cost + e)
-arc_then {p} a i stay = subst (Walk p a.from a.to) (omega arith) (on a i stay)
-arc_then a i (on {d = d} b j w) =
-    let same : a.cost + d + b.cost ≡ a.cost + (d + b.cost) = omega arith in
-    rw (← same) (on b j (arc_then a i w))
+arc_then {p} a i w = onward w
+  where
+    onward : {v e : ℕ} → Walk p a.to v e → Walk p a.from v (a.cost + e)
+    onward stay = subst (Walk p a.from a.to) (omega arith) (on a i stay)
+    onward (on {d = d} b j w) =
+        let same : a.cost + d + b.cost ≡ a.cost + (d + b.cost) = omega arith in
+        rw (← same) (on b j (onward w))
 
 module _ (p : Problem) (ok : Valid p) where
   -- the outcome of a query of the trace is that of its limit and budget

@@ -229,6 +229,7 @@ module _ (p : Problem) (C : ℕ) where
   relax_all_hits : (l : List Arc) (t : Table) (a : Arc) (d : ℕ) → Memᴰ a l → a.to < length t → d + a.cost + p.estimate a.to ≤ C
       → AtMost (cost_at t a.from) d → AtMost (cost_at (relax_all p C l t) a.to) (d + a.cost)
   unfolding relax_all
+  relax_all_hits [] t a d k i h m = elim k [ ]
   relax_all_hits (b ∷ l) t a d (Memᴰ.head e) i h m =
       rw e (relax_all_keeps l (relax p C t b) b.to (d + b.cost) (relax_hits t b d (rw e at i) (rw e at h) (rw e at m)))
   relax_all_hits (b ∷ l) t a d (Memᴰ.tail k) i h m =
