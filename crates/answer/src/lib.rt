@@ -1,10 +1,12 @@
 // The seven numbers of an answer, which every public call gives, and how they go to a host.
+#![tactic(auto)]
+
 ghost use Rattle.std.specs.Prelude.{◌≡◌, length, take, set};
 ghost use Rattle.model.specs.Answer.{answer, over_front};
 ghost use Rattle.answer.specs.Numbers.{answer_of, seven};
 
 // Document 01's seven numbers.
-#[derive(Drop)]
+#[derive(Clone, Copy)]
 pub struct Answer {
     pub number: u32,
     pub cost: u32,

@@ -1,5 +1,5 @@
 // The colours of the display's lamp.
-#[derive(Drop)]
+#[derive(Clone, Copy)]
 pub enum Lamp {
     Green,
     Red,

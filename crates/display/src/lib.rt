@@ -1,4 +1,6 @@
 // What the display shows of a sheet: a lamp, the cost and the places.
+#![tactic(auto)]
+
 pub mod lamps;
 
 ghost use Rattle.std.specs.Prelude.{◌≡◌};

@@ -11,7 +11,7 @@ use map::record::{Read, Record};
 use map::{Map, number, record};
 
 // How a report ended.
-#[derive(Drop)]
+#[derive(Clone, Copy)]
 pub enum Status {
     TooLong,
     ShortTally,
@@ -20,7 +20,7 @@ pub enum Status {
 
 // The day's figures: how often each number was answered, the total and the largest cost of the routes, and the total of the expansions. All are 0
 // where there is no report.
-#[derive(Drop)]
+#[derive(Clone, Copy)]
 pub struct Day {
     pub status: Status,
     pub counts: [u32; number::END],
@@ -35,7 +35,7 @@ const INPUT: usize = 65536;
 const ENTRIES: usize = 1000;
 
 // The figures of a report, and how many records of the tally it sets: none where it is refused.
-#[derive(Drop)]
+#[derive(Clone, Copy)]
 pub struct Reckoning {
     pub day: Day,
     pub records: usize,

@@ -24,7 +24,7 @@ use Rattle.map.specs.declared.record as declared
 use Rattle.map.specs.declared.record.Item.TheVariants as variants
 use Rattle.map.specs.Items.{meant, of_map, Priced}
 use Rattle.map.specs.contracts.record.Item.{the_type}
-use Rattle.map.proofs.Walks.{Comes, of_map}
+use Rattle.map.proofs.Walks.{Comes, of_map_lem}
 use Rattle.judge.specs.Marks.{first_mark, Clear}
 use Rattle.judge.specs.Waits.{note_of, wait_noted, Fitting, CanNote, noted_by, note_again, NotedItem, NotedAll, Noting}
 use Rattle.judge.specs.Waits.{any_too_dear, exceeds, too_dear, CanWeigh, Weighable, Weighing}
@@ -109,7 +109,7 @@ module _ {input : List ℕ} {at : ℕ} {r : declared.Record.Record} {i : declare
   pub noting_can : CanNote (of_map i) kept.0
   unfolding wait_in
   noting_can =
-      of_map input (λ k. CanNote k kept.0)
+      of_map_lem input (λ k. CanNote k kept.0)
       (λ j k c. record { room = c.room; place = c.place; value = c.value })
       (λ fs gs c. record { room = c.room; place = c.place; value = c.value })
       i
@@ -123,8 +123,8 @@ module _ {input : List ℕ} {at : ℕ} {r : declared.Record.Record} {i : declare
       → NotingKept (stated_in input) (items (frame (drop r.end input)).records) (noted, kept.1 || again)
   unfolding noted_by note_again
   noting_step step =
-      let after = of_map input (λ k. noted_by k kept.0 ≡ noted_by (meant input i) kept.0) (λ j k e. e) (λ fs gs e. e) i refl in
-      let before = of_map input (λ k. note_again k kept.0 ≡ note_again (meant input i) kept.0) (λ j k e. e) (λ fs gs e. e) i refl in
+      let after = of_map_lem input (λ k. noted_by k kept.0 ≡ noted_by (meant input i) kept.0) (λ j k e. e) (λ fs gs e. e) i refl in
+      let before = of_map_lem input (λ k. note_again k kept.0 ≡ note_again (meant input i) kept.0) (λ j k e. e) (λ fs gs e. e) i refl in
       rw (step.after ∙ after, step.before ∙ before) (one_noted (meant input i) (wait_place fits comes.in_all) comes.first)
 
 -- at the first item, and after the last
@@ -209,7 +209,7 @@ module _ {factors input noted : List ℕ} (can : Weighable factors input noted) 
     unfolding lane_in
     weighing_can =
         let stated-lane = said_lane can.fits comes.in_all in
-        of_map input (λ k. CanWeigh factors k noted)
+        of_map_lem input (λ k. CanWeigh factors k noted)
         (λ j k c. record { room = c.room; small = c.small; from = c.from; measure = c.measure; cost = c.cost })
         (λ fs gs c. record { room = c.room; small = c.small; from = c.from; measure = c.measure; cost = c.cost })
         i
@@ -225,7 +225,7 @@ module _ {factors input noted : List ℕ} (can : Weighable factors input noted) 
         → Weighing st (items (frame (drop r.end input)).records) (dear || found)
     unfolding too_dear
     weighing_step is =
-        let same = of_map input (λ k. too_dear factors noted k ≡ too_dear factors noted (meant input i)) (λ j k e. e) (λ fs gs e. e) i refl in
+        let same = of_map_lem input (λ k. too_dear factors noted k ≡ too_dear factors noted (meant input i)) (λ j k e. e) (λ fs gs e. e) i refl in
         rw (is ∙ same) (one_weighed (items (frame (drop r.end input)).records) dear (meant input i) comes.first)
 
 -- at the first item, and after the last

@@ -7,7 +7,7 @@ ghost use Rattle.model.specs.Limits.{max_places};
 use crate::marks;
 use map::Map;
 
-#[derive(Drop)]
+#[derive(Clone, Copy)]
 pub struct Goals {
     pub outside: bool,
     pub falls: bool,

@@ -1,4 +1,6 @@
 // Judges an input: the first of the papers' numbers 1 to 13 and 20 to 22 whose condition holds, or what an accepted input states.
+#![tactic(auto)]
+
 mod factors;
 mod goals;
 mod marks;
@@ -10,7 +12,7 @@ mod waits;
 use map::Job;
 pub use verdict::judge;
 
-#[derive(Drop)]
+#[derive(Clone, Copy)]
 pub enum Judgement {
     Refused(u32),
     Accepted(Job),

@@ -9,7 +9,7 @@ use crate::{marks, numbers};
 use map::record::{Item, JobFields, PlaceValue, Read, Size};
 use map::{Map, number, record};
 
-#[derive(Drop)]
+#[derive(Clone, Copy)]
 pub struct Survey {
     // The least number that a record was given, NONE where none was.
     pub number: u32,

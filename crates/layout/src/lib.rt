@@ -1,4 +1,6 @@
 // The work area: where its regions begin, what stands in them, and an arc in one word (specs/Regions.antt). Nobody else counts words.
+#![tactic(auto)]
+
 ghost use Rattle.std.specs.Prelude.{◌≡◌, not, ◌≤◌, ◌<◌, eqb, length};
 ghost use Rattle.layout.specs.Regions.{depths_at, open_at, parents_at, waits_at, ends_at, estimates_at, goals_at, arcs_at};
 ghost use Rattle.layout.specs.Regions.{label_word, depth_word, parent_word, wait_word, estimate_word, goal_word, arc_word};

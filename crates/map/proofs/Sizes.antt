@@ -50,10 +50,9 @@ module _ (n m : ℕ) where
           rw (← same) (record { in_range = e; places = refl; arcs = refl; few_places_lem = few_places_lem; few_arcs = few_arcs })
 
   -- where none is given, the numbers are out of range
-  pub no_map : (x : NewMap) → x ≡ map_of n m → OneOf (1 ∷ []) (tag_of the_type x) → out_of_range n m ≡ true
+  pub no_map : OutOfRange ≡ map_of n m → out_of_range n m ≡ true
   unfolding map_of
-  no_map (Within map) made k = absurd (omega arith)
-  no_map OutOfRange made k = go (out_of_range n m) made
+  no_map made = go (out_of_range n m) made
     where
       go : (t : Bool) → OutOfRange ≡ cond t OutOfRange (Within (record { places = n; arcs = m })) → t ≡ true
       go true e = refl

@@ -71,19 +71,19 @@ module _ {S : Type 0} {I : List model.Item → S → Type 0} {input : List ℕ} 
         rw end (record { inside = comes.next.lies.ends; fit = fit; among = later; holds = holds })
 
 -- what holds of an item, and for every job and all factors alike, holds of it as far as the item has it itself
-pub of_map : (input : List ℕ) (P : model.Item → Type 0) → ((j k : model.Job) → P (model.job j) → P (model.job k))
+pub of_map_lem : (input : List ℕ) (P : model.Item → Type 0) → ((j k : model.Job) → P (model.job j) → P (model.job k))
     → ((fs gs : List ℕ) → P (model.own_factors fs) → P (model.own_factors gs)) → (i : Item) → P (meant input i) → P (of_map i)
 unfolding meant
-of_map input P alike also (variants.Head s) p = p
-of_map input P alike also (variants.Lane l) p = p
-of_map input P alike also (variants.Measured l) p = p
-of_map input P alike also (variants.Estimate e) p = p
-of_map input P alike also (variants.Wait w) p = p
-of_map input P alike also (variants.Factors at) p = also _ _ p
-of_map input P alike also (variants.Default x) p = p
-of_map input P alike also (variants.Job j) p = alike _ _ p
-of_map input P alike also variants.Misfit p = p
-of_map input P alike also variants.Other p = p
+of_map_lem input P alike also (variants.Head s) p = p
+of_map_lem input P alike also (variants.Lane l) p = p
+of_map_lem input P alike also (variants.Measured l) p = p
+of_map_lem input P alike also (variants.Estimate e) p = p
+of_map_lem input P alike also (variants.Wait w) p = p
+of_map_lem input P alike also (variants.Factors at) p = also _ _ p
+of_map_lem input P alike also (variants.Default x) p = p
+of_map_lem input P alike also (variants.Job j) p = alike _ _ p
+of_map_lem input P alike also variants.Misfit p = p
+of_map_lem input P alike also variants.Other p = p
 
 -- a lane of either kind is the map's
 pub lane_said : {i : Item} {l : declared.Lane.Lane} → i ≡ variants.Lane l → of_map i ≡ model.lane (lane_meant l)

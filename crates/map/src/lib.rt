@@ -1,4 +1,6 @@
 // The map's type with the limits of the papers, and the records of an input.
+#![tactic(auto)]
+
 pub mod number;
 pub mod record;
 pub mod sheet;
@@ -9,13 +11,13 @@ ghost use Rattle.model.specs.Limits.{max_places, max_arcs};
 ghost use Rattle.model.specs.Stated.{fixed_factors};
 
 // The size of a map within the limits: its places are 0 to places − 1.
-#[derive(Drop)]
+#[derive(Clone, Copy)]
 pub struct Map {
     pub places: usize,
     pub arcs: usize,
 }
 
-#[derive(Drop)]
+#[derive(Clone, Copy)]
 pub enum NewMap {
     Within(Map),
     OutOfRange,
@@ -67,7 +69,7 @@ impl Map {
 
 // What a search is told besides the words that hold its map: the map's size, the start, and what the budget is multiplied by when a round
 // closes.
-#[derive(Drop)]
+#[derive(Clone, Copy)]
 pub struct Site {
     pub places: usize,
     pub arcs: usize,
@@ -95,7 +97,7 @@ impl Site {
 
 // An accepted input: what a search is told of it, the allowance, its goals, `goals` numbers of 2 bytes from byte `goals_at` on, where its own factors
 // begin, 0 where it has none, and the estimate of places that have none of their own.
-#[derive(Drop)]
+#[derive(Clone, Copy)]
 pub struct Job {
     pub site: Site,
     pub allowance: u32,

@@ -80,35 +80,35 @@ const GOAL_COUNT: usize = 6;
 pub const GOALS: usize = 8;
 
 // A whole record: its kind, and where its body stands. The next one begins where the body ends.
-#[derive(Drop)]
+#[derive(Clone, Copy)]
 pub struct Record {
     pub kind: u16,
     pub start: usize,
     pub end: usize,
 }
 
-#[derive(Drop)]
+#[derive(Clone, Copy)]
 pub enum Read {
     Whole(Record),
     Broken,
     End,
 }
 
-#[derive(Drop)]
+#[derive(Clone, Copy)]
 pub struct Size {
     pub places: usize,
     pub arcs: usize,
 }
 
 // An arc with a cost, and one with a length and a class.
-#[derive(Drop)]
+#[derive(Clone, Copy)]
 pub struct Lane {
     pub from: usize,
     pub to: usize,
     pub cost: u32,
 }
 
-#[derive(Drop)]
+#[derive(Clone, Copy)]
 pub struct MeasuredLane {
     pub from: usize,
     pub to: usize,
@@ -117,14 +117,14 @@ pub struct MeasuredLane {
 }
 
 // A number for a place: an estimate, or a wait.
-#[derive(Drop)]
+#[derive(Clone, Copy)]
 pub struct PlaceValue {
     pub place: usize,
     pub value: u32,
 }
 
 // A job's goals are `goals` numbers of 2 bytes from byte `goals_at` on.
-#[derive(Drop)]
+#[derive(Clone, Copy)]
 pub struct JobFields {
     pub start: u32,
     pub allowance: u32,
@@ -133,7 +133,7 @@ pub struct JobFields {
 }
 
 // What a record says, by its kind. `Misfit` has one of the papers' kinds and a body of another length; `Other` has none of their kinds.
-#[derive(Drop)]
+#[derive(Clone, Copy)]
 pub enum Item {
     Head(Size),
     Lane(Lane),

@@ -64,6 +64,7 @@ record Taken {A : Type 0} (x : A) (xs : List A) : Type 0 where
   counts : (p : A → Bool) → length (filter p xs) ≡ one_if (p x) + length (filter p rest)
 
 take-member : {A : Type 0} (x : A) (xs : List A) → Memᴰ x xs → Taken x xs
+take-member x [] i = elim i [ ]
 take-member x (y ∷ ys) (Memᴰ.head e) = record { rest = ys; counts = λ p. rw e (filter_cons p y ys) }
 take-member x (y ∷ ys) (Memᴰ.tail i) =
     let t = take-member x ys i in

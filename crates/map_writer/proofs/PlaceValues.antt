@@ -37,6 +37,7 @@ module _ (d : ℕ) where
   kept_lookup : (f : ℕ → ℕ) (vs : List ℕ) (v : ℕ) → (f v ≡ d) ⊎ Memᴰ v vs → lookup d (kept f vs) v ≡ f v
   unfolding filter lookup
   kept_lookup f [] v (inl e) = sym e
+  kept_lookup f [] v (inr i) = elim i [ ]
   kept_lookup f (u ∷ us) v h = go (ℕ_discrete u v) (eqb (f u) d) refl (kept_lookup f us v) h
     where
       go : Dec (u ≡ v) → (z : Bool) → eqb (f u) d ≡ z → ((f v ≡ d) ⊎ Memᴰ v us → lookup d (kept f us) v ≡ f v)

@@ -1,4 +1,6 @@
 // The map writer: from an accepted input the same map and job in one canonical form.
+#![tactic(auto)]
+
 ghost use Rattle.std.specs.Prelude.{◌≡◌, ◌≤◌, ◌<◌, ◌^◌};
 ghost use Rattle.model.specs.Answer.{answer};
 ghost use Rattle.model.specs.Limits.{max_places, max_arcs};

@@ -8,6 +8,8 @@
 // Each operation but `clear` and `reset` takes time logarithmic in the number of places; these two take linear time, but `reset` next to
 // none where the tree holds no open place. The hand takes a place that comes before the one in hand, which then goes into the tree. A
 // place that is closed while in hand takes no work on the tree: this saves nearly all of it in searches with few open places.
+#![tactic(auto)]
+
 ghost use Rattle.std.specs.Prelude.{◌≡◌};
 ghost use Rattle.open_list.specs.Entry.{place_of, key_of, no_key};
 ghost use Rattle.open_list.specs.Keys.{Room, OpenList, LeastKey, CanLower, CanClose, Put, Cleared, Used, keys_of, empty_hand};

@@ -1,4 +1,6 @@
 // One query: a uniform-cost search within a limit, which counts the places that it expands.
+#![tactic(auto)]
+
 ghost use Rattle.std.specs.Prelude.{◌≡◌};
 ghost use Rattle.layout.specs.Regions.{HasPlace};
 ghost use Rattle.scans.specs.Area.{Listed};
@@ -9,7 +11,7 @@ ghost use Rattle.query.specs.State.{Relaxes, ByArc, Relaxed, Expands, RowRelaxed
 use map::Site;
 
 // How a query ends: by a number above the limit, by its budget, at a goal, or with nothing left to reach.
-#[derive(Drop)]
+#[derive(Clone, Copy)]
 pub enum Outcome {
     Ended(u32),
     Over,
@@ -19,7 +21,7 @@ pub enum Outcome {
 
 // What a query gives. Where what is left of the allowance does not last, `spent` is set, `count` is what was left, and the rest says
 // nothing.
-#[derive(Drop)]
+#[derive(Clone, Copy)]
 pub struct Asked {
     pub spent: bool,
     pub outcome: Outcome,

@@ -19,7 +19,7 @@ use Rattle.model.proofs.Sheets.{Possible}
 use Rattle.layout.specs.Labels.{Follows, first, after}
 
 -- the parents lead along places of the map
-follows_below : {n v : ℕ} {w r : List ℕ} → Follows n w v r → (x : ℕ) → Memᴰ x r → x < n
+follows_below : {n : ℕ} {w : List ℕ} {v : ℕ} {r : List ℕ} → Follows n w v r → (x : ℕ) → Memᴰ x r → x < n
 follows_below (first l e) x i = rw (Memᴰ.eq_of_singleton i) l
 follows_below {n} (after {v = v} {r = r} l e f) x i = go (λ j. follows_below f x j) (Memᴰ.append_cases r i)
   where

@@ -1,4 +1,6 @@
 // The public call: from an input and two lent areas to the answer, with the route sheet in the sheet area.
+#![tactic(auto)]
+
 ghost use Rattle.std.specs.Prelude.{◌≡◌, ◌≤◌};
 ghost use Rattle.model.specs.Limits.{max_places, max_arcs};
 ghost use Rattle.answer.specs.Numbers.{answer_of};

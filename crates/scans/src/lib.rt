@@ -1,4 +1,6 @@
 // Passes over what a search has recorded: for the number with which a query ends, and for the goal and the parents of a route.
+#![tactic(auto)]
+
 ghost use Rattle.std.specs.Prelude.{◌≡◌, suc};
 ghost use Rattle.layout.specs.Rows.{IsArcWord};
 ghost use Rattle.scans.specs.Area.{Listed, IsNextLimit, Recorded, HasParents, LowestGoal, NearestGoal};

@@ -1,5 +1,7 @@
 // The budgeted search over a map in the work area: queries in rounds, with low, high and a budget, until a goal is found, none can be,
 // or the allowance is spent.
+#![tactic(auto)]
+
 ghost use Rattle.std.specs.Prelude.{◌≡◌, ◌^◌, ◌<◌};
 ghost use Rattle.model.specs.Rounds.{limit_of};
 ghost use Rattle.layout.specs.Map.{Holds};
@@ -10,14 +12,14 @@ ghost use Rattle.search.specs.Underway.{BudgetFits, NextRound, BudgetFitsAfter, 
 use map::Site;
 use query::Outcome;
 
-#[derive(Drop)]
+#[derive(Clone, Copy)]
 pub enum High {
     Unset,
     At(u32),
 }
 
 // The round's record, made anew as each query ends, with that query's outcome.
-#[derive(Drop)]
+#[derive(Clone, Copy)]
 pub struct Round {
     pub low: u32,
     pub high: High,
@@ -26,28 +28,28 @@ pub struct Round {
 }
 
 // How a search ends: cut by the allowance, with no goal, or at one.
-#[derive(Drop)]
+#[derive(Clone, Copy)]
 pub enum Verdict {
     Spent(CutShort),
     NoRoute(NoGoal),
     Routed(Reached),
 }
 
-#[derive(Drop)]
+#[derive(Clone, Copy)]
 pub struct CutShort {
     pub floor: u32,
     pub expansions: u32,
     pub queries: u32,
 }
 
-#[derive(Drop)]
+#[derive(Clone, Copy)]
 pub struct NoGoal {
     pub limit: u32,
     pub expansions: u32,
     pub queries: u32,
 }
 
-#[derive(Drop)]
+#[derive(Clone, Copy)]
 pub struct Reached {
     pub cost: u32,
     pub goal: u32,

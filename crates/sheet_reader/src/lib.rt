@@ -1,4 +1,6 @@
 // Reads a sheet: any bytes in, what they say out.
+#![tactic(auto)]
+
 ghost use Rattle.std.specs.Prelude.{◌≡◌, ◌+◌, ◌*◌, ◌≤◌, length};
 ghost use Rattle.model.specs.Limits.{max_places};
 ghost use Rattle.model.specs.Sheets.{route_kind, no_route_kind, refused_read, read_record, read_sheet, host_answer};

@@ -1,4 +1,6 @@
 // Writes the two sheets.
+#![tactic(auto)]
+
 ghost use Rattle.sheet_writer.specs.Write.{FitsNoRoute, NoRouteWritten, FitsRoute, RouteWritten};
 ghost use Rattle.std.specs.Prelude.{◌≡◌};
 ghost use Rattle.layout.specs.Regions.{HasPlace};

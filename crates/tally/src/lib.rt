@@ -1,11 +1,13 @@
 // The per-goal tally: a lent list of records with three numbers each. What goes over such a list is kept thin, since each such function is proved by a
 // walk of its own: records are made of plain numbers here, and the numbers are reckoned elsewhere.
+#![tactic(auto)]
+
 ghost use Rattle.std.specs.Prelude.{◌≡◌, ◌<◌, ◌^◌};
 ghost use Rattle.tally.specs.Tallied.{tally_with, Puttable, put_to};
 
 // A goal, the routes that end there, and their cost.
 #[repr(C)]
-#[derive(Drop)]
+#[derive(Clone, Copy)]
 pub struct Tally {
     pub goal: u32,
     pub routes: u32,

@@ -1,0 +1,11 @@
+-- `record::measured_at` meets its contract: the fields are what the calls read. Assumes nothing.
+use mathlib.Core.Path.{sym, ◌∙◌}
+use Rattle.map.proofs.Items.{measured_at}
+use Rattle.map.proofs.record.measured_at.Goals as goal
+
+pub returns : goal.returns
+returns c =
+    let from = c.index.ensures.0 ∙ c.u16_at.ensures in
+    let to = c.index-2.ensures.0 ∙ c.u16_at-2.ensures in
+    let long = c.wide16.ensures.0 ∙ c.u16_at-3.ensures in
+    rw (from, to, long, c.index-3.ensures.0 ∙ c.u16_at-4.ensures) (sym (measured_at _ _))

@@ -1,0 +1,22 @@
+use Prim.Native.Nat.{◌+◌, ◌-◌, ◌≤◌}
+use native.Mathlib.Omega.{arith}
+use lib.ListN.{length, drop}
+use borrow.Author.Rules.{rules}
+use Rattle.map_records.specs.Puts.{put_lanes}
+use Rattle.map_records.proofs.PutLoops.{Putting, all_left, next_fits, next_put, none_left, lanes_from_lem, lanes_done}
+use Rattle.map_records.proofs.put_lanes.Goals as goal
+
+pub put_lane-at-requires : goal.put_lane-at-requires
+put_lane-at-requires c =
+    let l = c.loop-k in
+    next_fits (lanes_from_lem _ l.k (omega arith)) l.invariant.1
+
+pub loop-k-preserved : goal.loop-k-preserved
+loop-k-preserved c =
+    let l = c.loop-k in
+    (omega arith, next_put (lanes_from_lem _ l.k (omega arith)) l.invariant.1 c.put_lane-at.ensures)
+
+pub returns : goal.returns
+returns c =
+    let l = c.loop-k in
+    none_left (lanes_done _ l.k (omega arith)) l.invariant.1

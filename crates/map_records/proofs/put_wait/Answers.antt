@@ -1,0 +1,11 @@
+-- The fields stand one after another.
+use borrow.Author.Rules.{rules}
+use Rattle.model.specs.Bytes.{put16}
+use Rattle.model.specs.Jobs.{put_wait}
+use Rattle.map_records.proofs.PutRecords.{pair_fields}
+use Rattle.map_records.proofs.put_wait.Goals as goal
+
+pub returns : goal.returns
+unfolding put_wait put16
+returns c =
+    pair_fields _ _ _ _ _ c.put_header.ensures c.put16.ensures c.put16-2.ensures

@@ -1,0 +1,15 @@
+-- A refusal leaves both areas as they were; an input that passes is as its judgement states.
+use borrow.Author.Rules.{rules}
+use Rattle.judge.proofs.Passing.{passes}
+use Rattle.map_writer.proofs.Lent.{refused_wrote}
+use Rattle.map_writer.proofs.write.Goals as goal
+
+pub with_room-requires : goal.with_room-requires
+with_room-requires c =
+    passes c.judge-judgement.ensures c.in-Accepted.is
+
+pub returns-in-Refused : goal.returns-in-Refused
+returns-in-Refused c =
+    let judged = c.judge-judgement.ensures in
+    let is = c.in-Refused.is in
+    refused_wrote judged _ _ is (judged.some_number _ is) c.refused.ensures

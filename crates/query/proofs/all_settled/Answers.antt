@@ -1,0 +1,10 @@
+-- The next limit that was found, as an outcome. Assumes nothing.
+use Rattle.query.proofs.Answers.{ended-none, ended_next}
+use borrow.Author.Rules.{rules}
+use Rattle.query.proofs.all_settled.Goals as goal
+
+pub returns-then-next : goal.returns-then-next
+returns-then-next c = rw c.answered.ensures (ended-none _ _ _ _ c.next_limit-next.ensures c.if-next.true)
+
+pub returns : goal.returns
+returns c = rw c.answered-2.ensures (ended_next _ _ _ _ c.next_limit-next.ensures c.if-next.false)

@@ -1,0 +1,22 @@
+-- The invariant: the queries done, whose total the allowance lasts for, and those from the round on are the search's; the round's record
+-- carries the outcome of the last one done; the map is as it was, and the open list is ready. The measure is the number of queries left.
+-- Assumes nothing.
+use mathlib.Core.Path.{◌≡◌, ◌∙◌}
+use mathlib.Core.List.{List}
+use Prim.Native.Nat.{ℕ, ◌-◌}
+use native.Mathlib.Omega.{arith}
+use lib.ListN.{length, drop}
+use Rattle.layout.specs.Regions.{ends_at}
+use Rattle.layout.specs.Map.{problem_at, Holds}
+use Rattle.layout.proofs.Held.{holds_same}
+use Rattle.model.specs.Rounds.{trace}
+use Rattle.search.specs.Underway.{BetweenQueries}
+use Rattle.search.proofs.RoundTurns as turns
+use borrow.Author.Rules.{rules}
+use Rattle.search.proofs.search.Given as goal
+
+abbrev pub invariant-loop-site : goal.invariant-loop-site
+invariant-loop-site l = BetweenQueries l.site l.allowance l.initial.work l.work l.round l.expansions l.queries
+
+abbrev pub decreases-loop-site : goal.decreases-loop-site
+decreases-loop-site l = length (trace (problem_at l.site l.initial.work)) - l.queries
