@@ -1,5 +1,4 @@
 -- The fields stand one after another.
-use borrow.Author.Rules.{rules}
 use Rattle.map_records.proofs.PutRecords.{arc_fields}
 use Rattle.map_records.proofs.put_arc.Goals as goal
 

@@ -1,9 +1,5 @@
-use Prim.Native.Nat.{◌-◌, ◌≤◌}
 use native.Mathlib.Omega.{arith}
-use lib.ListN.{length, drop}
-use borrow.Author.Rules.{rules}
-use Rattle.map_records.specs.Puts.{put_by_place}
-use Rattle.map_records.proofs.PutLoops.{Putting, all_left, next_fits, next_put, none_left, by_place_from, by_place_done}
+use Rattle.map_records.proofs.PutLoops.{next_fits, next_put, none_left, by_place_from, by_place_done}
 use Rattle.map_records.proofs.put_by_place.Goals as goal
 
 pub put_unless-at-requires : goal.put_unless-at-requires

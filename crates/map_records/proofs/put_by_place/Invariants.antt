@@ -1,10 +1,8 @@
 -- The loop's invariant: the numbers from place v on are left to be put. The measure is the number of words that are left. Assumes nothing.
 use Prim.Native.Nat.{◌-◌, ◌≤◌}
-use native.Mathlib.Omega.{arith}
 use lib.ListN.{length, drop}
-use borrow.Author.Rules.{rules}
 use Rattle.map_records.specs.Puts.{put_by_place}
-use Rattle.map_records.proofs.PutLoops.{Putting, all_left, next_fits, next_put, none_left, by_place_from, by_place_done}
+use Rattle.map_records.proofs.PutLoops.{Putting}
 use Rattle.map_records.proofs.put_by_place.Given as goal
 
 abbrev pub invariant-loop-v : goal.invariant-loop-v

@@ -1,5 +1,4 @@
 -- The fields stand one after another.
-use borrow.Author.Rules.{rules}
 use Rattle.model.specs.Bytes.{put16, put32}
 use Rattle.model.specs.Jobs.{put_estimate}
 use Rattle.map_records.proofs.PutRecords.{pair_fields}

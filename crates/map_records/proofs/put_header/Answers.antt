@@ -1,5 +1,4 @@
 -- The kind stands after the length.
-use borrow.Author.Rules.{rules}
 use Rattle.map_records.proofs.PutRecords.{header_fields}
 use Rattle.map_records.proofs.put_header.Goals as goal
 

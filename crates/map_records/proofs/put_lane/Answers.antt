@@ -1,5 +1,4 @@
 -- The bit that says whether the lane is measured says which record it was.
-use borrow.Author.Rules.{rules}
 use Rattle.model.specs.Bytes.{put16}
 use Rattle.model.specs.Framing.{put_record}
 use Rattle.model.specs.Jobs.{put_arc, put_measured}

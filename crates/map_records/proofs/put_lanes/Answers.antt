@@ -1,9 +1,5 @@
-use Prim.Native.Nat.{◌+◌, ◌-◌, ◌≤◌}
 use native.Mathlib.Omega.{arith}
-use lib.ListN.{length, drop}
-use borrow.Author.Rules.{rules}
-use Rattle.map_records.specs.Puts.{put_lanes}
-use Rattle.map_records.proofs.PutLoops.{Putting, all_left, next_fits, next_put, none_left, lanes_from_lem, lanes_done}
+use Rattle.map_records.proofs.PutLoops.{next_fits, next_put, none_left, lanes_from_lem, lanes_done}
 use Rattle.map_records.proofs.put_lanes.Goals as goal
 
 pub put_lane-at-requires : goal.put_lane-at-requires

@@ -17,23 +17,23 @@ use Rattle.map_records.proofs.put_table.Goals as goal
 differs : (c : Else-same_factors) → same_numbers (table_at c.args.input.now c.args.factors_at) fixed_factors ≡ false
 differs c =
     let compared : c.same_factors.result ≡ same_numbers (table_at c.args.input.now c.args.factors_at) fixed_factors =
-        c.same_factors.ensures
+    c.same_factors.ensures
     ∙ ap₂ same_numbers c.factors-factors.ensures c.fixed_factors-fixed.ensures in
     sym compared ∙ c.if-same_factors.false
 
 room : (c : Else-same_factors) → let a = c.args in a.at + 4 + factors_bytes ≤ length a.out.now
 room c =
     let compared : c.same_factors.result ≡ same_numbers (table_at c.args.input.now c.args.factors_at) fixed_factors =
-        c.same_factors.ensures
+    c.same_factors.ensures
     ∙ ap₂ same_numbers c.factors-factors.ensures c.fixed_factors-fixed.ensures in
     let differs : same_numbers (table_at c.args.input.now c.args.factors_at) fixed_factors ≡ false =
-        sym compared ∙ c.if-same_factors.false in
+    sym compared ∙ c.if-same_factors.false in
     omega (arith, table-length _ _ c.requires.0 differs, c.requires.1)
 
 pub returns-then-same_factors : goal.returns-then-same_factors
 returns-then-same_factors c =
     let compared : c.same_factors.result ≡ same_numbers (table_at c.args.input.now c.args.factors_at) fixed_factors =
-        c.same_factors.ensures
+    c.same_factors.ensures
     ∙ ap₂ same_numbers c.factors-factors.ensures c.fixed_factors-fixed.ensures in
     fixed_left_out _ (sym compared ∙ c.if-same_factors.true) _ _
 
@@ -43,12 +43,12 @@ put_header-requires c = let r = (room (goal.at.put_header-requires c).Else-same_
 pub slice_bounds-put_bytes-end : goal.slice_bounds-put_bytes-end
 slice_bounds-put_bytes-end c =
     let compared : c.same_factors.result ≡ same_numbers (table_at c.args.input.now c.args.factors_at) fixed_factors =
-        c.same_factors.ensures
+    c.same_factors.ensures
     ∙ ap₂ same_numbers c.factors-factors.ensures c.fixed_factors-fixed.ensures in
     let differs : same_numbers (table_at c.args.input.now c.args.factors_at) fixed_factors ≡ false =
-        sym compared ∙ c.if-same_factors.false in
+    sym compared ∙ c.if-same_factors.false in
     let lies : let a = c.args in a.factors_at + factors_bytes ≤ length a.input.now =
-        own_lies _ _ c.requires.0 differs in
+    own_lies _ _ c.requires.0 differs in
     let l = lies in search rules
 
 pub put_bytes-requires : goal.put_bytes-requires

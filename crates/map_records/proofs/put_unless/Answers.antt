@@ -1,5 +1,4 @@
 -- The number that holds without a record is not put; of any other the kind says as which record it is put.
-use borrow.Author.Rules.{rules}
 use Rattle.model.specs.Bytes.{put16, put32}
 use Rattle.model.specs.Framing.{put_record}
 use Rattle.model.specs.Jobs.{put_estimate, put_wait}

@@ -1,7 +1,5 @@
-use Prim.Native.Nat.{◌-◌, ◌≤◌}
 use native.Mathlib.Omega.{arith}
-use borrow.Author.Rules.{rules}
-use Rattle.map_records.proofs.Tables.{Compared, none_compared, one_compared, all_compared}
+use Rattle.map_records.proofs.Tables.{one_compared, all_compared}
 use Rattle.map_records.proofs.same_factors.Goals as goal
 
 pub loop-class-preserved : goal.loop-class-preserved

@@ -1,8 +1,6 @@
 -- The loop's invariant: the factors of the classes before this one are compared. The measure is the number of classes that are left. Assumes nothing.
 use Prim.Native.Nat.{◌-◌, ◌≤◌}
-use native.Mathlib.Omega.{arith}
-use borrow.Author.Rules.{rules}
-use Rattle.map_records.proofs.Tables.{Compared, none_compared, one_compared, all_compared}
+use Rattle.map_records.proofs.Tables.{Compared}
 use Rattle.map_records.proofs.same_factors.Given as goal
 
 abbrev pub invariant-loop-class : goal.invariant-loop-class

@@ -3,7 +3,6 @@ use mathlib.Core.Path.{◌≡◌, ap, ◌∙◌}
 use Prim.Native.Nat.{ℕ, ◌≤◌}
 use native.Mathlib.Omega.{arith}
 use lib.ListN.{length, drop, replicate}
-use borrow.Author.Rules.{rules}
 use Rattle.model.specs.Answer.{over_front}
 use Rattle.area.proofs.Fronts.{cleared}
 use Rattle.judge.proofs.Passing.{sizes}

@@ -1,7 +1,6 @@
 -- What is prepared is what placing asks; the rows that are placed are sorted. Assumes nothing.
 use mathlib.Core.Path.{◌∙◌}
 use lib.ListN.{length}
-use borrow.Author.Rules.{rules}
 use Rattle.load.proofs.Known.{Known, known}
 use Rattle.map_writer.proofs.Orders.{can_place, has_rows, ordered}
 use Rattle.map_writer.proofs.order.Goals.{After-shared_slice_known-1}

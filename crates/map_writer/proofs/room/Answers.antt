@@ -1,6 +1,5 @@
 -- Each return goes by the tests that led there.
 use borrow.Author.Tests.{lt-ltb, le-ltb}
-use borrow.Author.Rules.{rules}
 use Rattle.model.specs.Refusals.{short_work, first_that_holds}
 use Rattle.map_writer.specs.Call.{short_output, output_rows}
 use Rattle.map_writer.proofs.room.Goals as goal

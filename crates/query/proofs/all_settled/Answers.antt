@@ -1,6 +1,5 @@
 -- The next limit that was found, as an outcome. Assumes nothing.
 use Rattle.query.proofs.Answers.{ended-none, ended_next}
-use borrow.Author.Rules.{rules}
 use Rattle.query.proofs.all_settled.Goals as goal
 
 pub returns-then-next : goal.returns-then-next

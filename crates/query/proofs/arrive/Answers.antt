@@ -1,7 +1,6 @@
 -- One store among the labels and one among the depths, and the open list lent and come back. Assumes nothing.
 use Rattle.area.specs.Part.{part}
 use Rattle.query.proofs.Regions.{arrive_lowers, arrived}
-use borrow.Author.Rules.{rules}
 use Rattle.query.proofs.arrive.Goals as goal
 
 pub lower-requires : goal.lower-requires

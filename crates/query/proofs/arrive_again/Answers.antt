@@ -1,7 +1,6 @@
 -- The depth is stored where it is smaller. Assumes nothing.
 use mathlib.Core.Path.{sym, ◌∙◌}
 use native.Mathlib.Omega.{arith}
-use borrow.Author.Rules.{rules}
 use Rattle.query.proofs.Arcs.{again_fewer, again_no_fewer}
 use Rattle.query.proofs.arrive_again.Goals as goal
 

@@ -2,7 +2,6 @@
 -- Assumes nothing.
 use Rattle.area.specs.Part.{part}
 use Rattle.query.proofs.Regions.{still_used, blank}
-use borrow.Author.Rules.{rules}
 use Rattle.query.proofs.clear.Goals as goal
 
 pub reset-requires : goal.reset-requires

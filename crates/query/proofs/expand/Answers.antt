@@ -1,8 +1,4 @@
-use Prim.Native.Nat.{◌-◌}
-use native.Mathlib.Omega.{arith}
-use Rattle.query.specs.State.{Expanding}
-use Rattle.query.proofs.Arcs.{expanding_starts, expanding_arc, expanding_relaxes, expanding_on, expanding_ends}
-use borrow.Author.Rules.{rules}
+use Rattle.query.proofs.Arcs.{expanding_relaxes, expanding_on, expanding_ends}
 use Rattle.query.proofs.expand.Goals as goal
 
 pub relax-h-requires : goal.relax-h-requires

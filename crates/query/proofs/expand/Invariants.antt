@@ -1,9 +1,6 @@
 -- The invariant of the loop: the arcs of the row before number j are relaxed. The measure is what is left of the row. Assumes nothing.
 use Prim.Native.Nat.{◌-◌}
-use native.Mathlib.Omega.{arith}
 use Rattle.query.specs.State.{Expanding}
-use Rattle.query.proofs.Arcs.{expanding_starts, expanding_arc, expanding_relaxes, expanding_on, expanding_ends}
-use borrow.Author.Rules.{rules}
 use Rattle.query.proofs.expand.Given as goal
 
 abbrev pub invariant-loop-j : goal.invariant-loop-j

@@ -1,7 +1,6 @@
 -- The open list comes back cleared; the map lies beyond it. Assumes nothing.
 use Rattle.area.specs.Part.{part}
 use Rattle.query.proofs.Regions.{prepared}
-use borrow.Author.Rules.{rules}
 use Rattle.query.proofs.prepare.Goals as goal
 
 pub returns : goal.returns

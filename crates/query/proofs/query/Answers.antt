@@ -1,6 +1,4 @@
 use mathlib.Core.Path.{◌≡◌, sym, ◌∙◌}
-use mathlib.Core.List.{List}
-use Prim.Native.Nat.{ℕ, ◌-◌}
 use native.Mathlib.Omega.{arith}
 use lib.ListN.{drop}
 use Rattle.area.specs.Part.{part}
@@ -10,13 +8,11 @@ use Rattle.layout.proofs.Held.{few_places_lem}
 use Rattle.model.specs.Costs.{cost_at}
 use Rattle.query.specs.Front.{NoneOpen}
 use Rattle.query.specs.Open.{settled_at}
-use Rattle.query.specs.State.{Searching}
 use Rattle.query.proofs.Regions.{begun-map}
 use Rattle.query.proofs.QueryUnderway as underway
 use Rattle.query.proofs.QueryUnderway.{QueryUnderway, Taken}
 use Rattle.query.proofs.Expansions as expansions
 use Rattle.query.proofs.Answers as answers
-use borrow.Author.Rules.{rules}
 use Rattle.query.proofs.query.Goals.{After-slice_known-3-1, At-loop-work, Else-d, Then-d}
 use Rattle.query.proofs.query.Goals as goal
 
@@ -26,7 +22,7 @@ same_map c = begun-map c.clear.ensures c.arrive-hand.ensures
 under : (c : At-loop-work) → (let a = c.args in QueryUnderway a.site a.limit a.budget a.left c.arrive-hand.new.work c.loop-work.hand c.loop-work.work c.loop-work.count)
 under c =
     let same_map : (let a = c.args in drop (ends_at a.site.places) c.arrive-hand.new.work ≡ drop (ends_at a.site.places) a.work.now) =
-        begun-map c.clear.ensures c.arrive-hand.ensures in
+    begun-map c.clear.ensures c.arrive-hand.ensures in
     let arrive = c.arrive-hand.ensures in
     let length = arrive.same_length ∙ c.clear.ensures.same_length in
     record { ask = underway.ask_same _ c.requires _ same_map length _ arrive.list; search = c.loop-work.invariant }
@@ -35,9 +31,9 @@ taken : (c : Else-d) → (let a = c.args in Taken a.site a.limit a.budget a.left
 unfolding part
 taken c =
     let same_map : (let a = c.args in drop (ends_at a.site.places) c.arrive-hand.new.work ≡ drop (ends_at a.site.places) a.work.now) =
-        begun-map c.clear.ensures c.arrive-hand.ensures in
+    begun-map c.clear.ensures c.arrive-hand.ensures in
     let under : (let a = c.args in QueryUnderway a.site a.limit a.budget a.left c.arrive-hand.new.work c.loop-work.hand c.loop-work.work c.loop-work.count) =
-        let arrive = c.arrive-hand.ensures in
+    let arrive = c.arrive-hand.ensures in
     let length = arrive.same_length ∙ c.clear.ensures.same_length in
     record { ask = underway.ask_same _ c.requires _ same_map length _ arrive.list; search = c.loop-work.invariant } in
     let first = rw (← c.place_of-place.ensures, ← c.key_of-d.ensures) at c.least-first.ensures in
@@ -48,9 +44,9 @@ none_open : (c : Then-d) → (let n = c.args.site.places in NoneOpen (λ v. cost
 unfolding part
 none_open c =
     let same_map : (let a = c.args in drop (ends_at a.site.places) c.arrive-hand.new.work ≡ drop (ends_at a.site.places) a.work.now) =
-        begun-map c.clear.ensures c.arrive-hand.ensures in
+    begun-map c.clear.ensures c.arrive-hand.ensures in
     let under : (let a = c.args in QueryUnderway a.site a.limit a.budget a.left c.arrive-hand.new.work c.loop-work.hand c.loop-work.work c.loop-work.count) =
-        let arrive = c.arrive-hand.ensures in
+    let arrive = c.arrive-hand.ensures in
     let length = arrive.same_length ∙ c.clear.ensures.same_length in
     record { ask = underway.ask_same _ c.requires _ same_map length _ arrive.list; search = c.loop-work.invariant } in
     let first = rw (← c.place_of-place.ensures, ← c.key_of-d.ensures) at c.least-first.ensures in

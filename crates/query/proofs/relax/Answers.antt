@@ -1,8 +1,6 @@
 -- An arc passes where its end is labelled less or lies beyond the limit; else its end is arrived at, again where it has that label. Assumes nothing.
-use mathlib.Core.Logic.{inl, inr}
 use native.Mathlib.Omega.{arith}
-use Rattle.query.proofs.Arcs.{relax_fits, relax_arrives, relax_passes, relax_again, relax_falls}
-use borrow.Author.Rules.{rules}
+use Rattle.query.proofs.Arcs.{relax_arrives, relax_again, relax_falls}
 use Rattle.query.proofs.relax.Goals as goal
 
 pub returns-then-label-e-2 : goal.returns-then-label-e-2

@@ -1,7 +1,6 @@
 -- One store where the parents will lie, and the open list lent and come back. Assumes nothing.
 use Rattle.area.specs.Part.{part}
 use Rattle.query.proofs.Regions.{settle_closes, settled}
-use borrow.Author.Rules.{rules}
 use Rattle.query.proofs.settle.Goals as goal
 
 pub close-requires : goal.close-requires

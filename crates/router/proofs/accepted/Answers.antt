@@ -1,5 +1,4 @@
 -- The loaded problem is the input's, and its verdict is concluded.
-use borrow.Author.Rules.{rules}
 use Rattle.router.proofs.Routing.{concludable, accepted_routed}
 use Rattle.router.proofs.accepted.Goals as goal
 

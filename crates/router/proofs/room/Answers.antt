@@ -1,6 +1,5 @@
 -- Each return goes by the tests that led there.
 use borrow.Author.Tests.{lt-ltb, le-ltb}
-use borrow.Author.Rules.{rules}
 use Rattle.model.specs.Refusals.{short_work, short_sheet, room_rows, first_that_holds}
 use Rattle.router.proofs.room.Goals as goal
 

@@ -1,5 +1,4 @@
 -- A refusal leaves both areas as they were; an input that passes is as its judgement states.
-use borrow.Author.Rules.{rules}
 use Rattle.judge.proofs.Passing.{passes}
 use Rattle.router.proofs.Judging.{refused_routed}
 use Rattle.router.proofs.route.Goals as goal

@@ -1,5 +1,4 @@
 -- Too little room is refused with the call's own number; with room the input is accepted.
-use borrow.Author.Rules.{rules}
 use Rattle.judge.proofs.Passing.{sizes}
 use Rattle.router.proofs.Lent.{short_routed, has_room}
 use Rattle.router.proofs.with_room.Goals as goal

@@ -1,5 +1,4 @@
 -- Each arm writes the sheet of its verdict's ending: none, the no_route sheet, or the route sheet.
-use borrow.Author.Rules.{rules}
 use Rattle.router.proofs.Sheet.{written_nothing, written_no_route, written_route}
 use Rattle.router.proofs.write_sheet.Goals as goal
 

@@ -1,9 +1,7 @@
 -- `out` is the arc's sum, or the largest word where its end has a label; the lesser of it and `least` is returned. Assumes nothing.
-use mathlib.Core.Logic.{⊎_elim}
 use mathlib.Core.Bool.{cond}
 use native.Mathlib.Omega.{arith}
 use lib.Dec.{ltb}
-use borrow.Author.Rules.{rules}
 use borrow.Author.Tests.{lt-ltb, le-ltb}
 use Rattle.scans.specs.Scans.{Crossed}
 use Rattle.scans.proofs.NextLimit.{not_crossed, crossed}
@@ -17,8 +15,8 @@ lowered c =
     let cost = c.arc_cost.ensures in
     let estimate = rw end at c.estimate.ensures in
     elim c.if-label.branch [
-      then-label w ↦ crossed _ _ _ _ _ _ c.requires (rw label at w.if-label.true) (rw (cost, estimate) at w.out-is)
-    | else-label w ↦ not_crossed _ _ _ _ _ _ c.requires (omega (arith, c.ranges.least)) (rw label at w.if-label.false) w.out-is
+      | then-label w ↦ crossed _ _ _ _ _ _ c.requires (rw label at w.if-label.true) (rw (cost, estimate) at w.out-is)
+      | else-label w ↦ not_crossed _ _ _ _ _ _ c.requires (omega (arith, c.ranges.least)) (rw label at w.if-label.false) w.out-is
     ]
 
 pub returns-then-out-least : goal.returns-then-out-least

@@ -1,15 +1,14 @@
 -- The place is chosen only where it is a goal, has the label, and has a smaller depth. Assumes nothing.
 use mathlib.Core.Path.{sym, ◌∙◌}
 use native.Mathlib.Omega.{arith}
-use borrow.Author.Rules.{rules}
 use borrow.Author.Tests.{eqb-true, eqb-false, not-true, not-false}
 use Rattle.scans.proofs.Goals.{chosen, not_chosen}
 use Rattle.scans.proofs.nearer.Goals as goal
 
 pub returns-then-not-is_goal : goal.returns-then-not-is_goal
 returns-then-not-is_goal c =
-    let no-mark = eqb-true _ 0 (not-false _ (sym c.is_goal.ensures ∙ c.if-not-is_goal.true)) in
-    sym (not_chosen _ _ _ _ (λ h. h.mark no-mark))
+    let no_mark = eqb-true _ 0 (not-false _ (sym c.is_goal.ensures ∙ c.if-not-is_goal.true)) in
+    sym (not_chosen _ _ _ _ (λ h. h.mark no_mark))
 
 pub returns-then-label : goal.returns-then-label
 returns-then-label c =

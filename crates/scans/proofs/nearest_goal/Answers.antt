@@ -1,9 +1,4 @@
-use Prim.Native.Nat.{◌-◌}
-use native.Mathlib.Omega.{arith}
-use borrow.Author.Rules.{rules}
-use Rattle.layout.proofs.Held.{goal_place, few_places_lem}
-use Rattle.scans.specs.Scans.{Choosing}
-use Rattle.scans.proofs.Goals.{choosing_start, choosable, choosing_step, choosing_end}
+use Rattle.scans.proofs.Goals.{choosable, choosing_step, choosing_end}
 use Rattle.scans.proofs.nearest_goal.Goals as goal
 
 pub nearer-goal-requires : goal.nearer-goal-requires

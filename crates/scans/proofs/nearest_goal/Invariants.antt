@@ -1,11 +1,7 @@
 -- The invariant of the loop: of the goals below v with the label of `first`, `goal` comes first by depth, then by number. The measure is what
 -- is left of the places. Assumes nothing.
 use Prim.Native.Nat.{◌-◌}
-use native.Mathlib.Omega.{arith}
-use borrow.Author.Rules.{rules}
-use Rattle.layout.proofs.Held.{goal_place, few_places_lem}
 use Rattle.scans.specs.Scans.{Choosing}
-use Rattle.scans.proofs.Goals.{choosing_start, choosable, choosing_step, choosing_end}
 use Rattle.scans.proofs.nearest_goal.Given as goal
 
 abbrev pub invariant-loop-v : goal.invariant-loop-v

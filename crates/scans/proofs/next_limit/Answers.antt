@@ -1,8 +1,5 @@
-use Prim.Native.Nat.{◌-◌}
 use native.Mathlib.Omega.{arith}
-use borrow.Author.Rules.{rules}
 use Rattle.layout.proofs.Held.{has_place}
-use Rattle.scans.specs.Scans.{LimitUpTo}
 use Rattle.scans.proofs.NextLimit.{no_rows, limit_row, one_row_more, all_rows}
 use Rattle.scans.proofs.next_limit.Goals as goal
 

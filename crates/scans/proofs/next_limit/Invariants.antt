@@ -1,11 +1,7 @@
 -- The invariant of the loop: best is the least sum over the rows of the first i places of the list. The measure is what is left of the
 -- list. Assumes nothing.
 use Prim.Native.Nat.{◌-◌}
-use native.Mathlib.Omega.{arith}
-use borrow.Author.Rules.{rules}
-use Rattle.layout.proofs.Held.{has_place}
 use Rattle.scans.specs.Scans.{LimitUpTo}
-use Rattle.scans.proofs.NextLimit.{no_rows, limit_row, one_row_more, all_rows}
 use Rattle.scans.proofs.next_limit.Given as goal
 
 abbrev pub invariant-loop-i : goal.invariant-loop-i

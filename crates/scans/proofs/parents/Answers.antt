@@ -1,8 +1,4 @@
-use mathlib.Core.Path.{◌∙◌}
-use Prim.Native.Nat.{◌-◌}
-use borrow.Author.Rules.{rules}
 use Rattle.layout.proofs.Held.{few_places_lem, map_room}
-use Rattle.scans.specs.Scans.{ParentsUpTo}
 use Rattle.scans.proofs.ParentLaws.{no_rows, parents_row, one_row_more, all_rows}
 use Rattle.scans.proofs.parents.Goals as goal
 

@@ -1,8 +1,3 @@
-use mathlib.Core.Path.{refl}
-use Prim.Native.Nat.{◌-◌}
-use borrow.Author.Rules.{rules}
-use Rattle.layout.proofs.Rows.{has_arc}
-use Rattle.scans.specs.Scans.{Limiting}
 use Rattle.scans.proofs.NextLimit.{limiting_start, limiting_arc, limiting_step, limiting_end}
 use Rattle.scans.proofs.row_limit.Goals as goal
 

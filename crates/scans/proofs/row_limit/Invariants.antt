@@ -1,11 +1,7 @@
 -- The invariant of the loop: best is the least sum over the arcs of u before arc k and whatever arcs `least` is the least over.
 -- The measure is what is left of the row. Assumes nothing.
-use mathlib.Core.Path.{refl}
 use Prim.Native.Nat.{◌-◌}
-use borrow.Author.Rules.{rules}
-use Rattle.layout.proofs.Rows.{has_arc}
 use Rattle.scans.specs.Scans.{Limiting}
-use Rattle.scans.proofs.NextLimit.{limiting_start, limiting_arc, limiting_step, limiting_end}
 use Rattle.scans.proofs.row_limit.Given as goal
 
 abbrev pub invariant-loop-k : goal.invariant-loop-k

@@ -1,13 +1,9 @@
 use mathlib.Core.Path.{◌≡◌, sym}
 use mathlib.Core.Option.{some}
-use Prim.Native.Nat.{◌-◌}
 use native.Mathlib.Omega.{arith}
-use borrow.Author.Rules.{rules}
 use Rattle.model.specs.Costs.{cost_at}
 use Rattle.layout.specs.Labels.{labels}
-use Rattle.layout.proofs.Rows.{has_arc}
 use Rattle.layout.proofs.Labels.{is_label}
-use Rattle.scans.specs.Scans.{Parenting}
 use Rattle.scans.proofs.ParentLaws.{no_parents, parenting_start, parenting_arc, parenting_step, parenting_end}
 use Rattle.scans.proofs.row_parents.Goals.{Else-d}
 use Rattle.scans.proofs.row_parents.Goals as goal

@@ -1,6 +1,5 @@
 -- The next round is the definition's where it gives one; the outcome that was handed in is the record's. Assumes nothing.
 use Rattle.search.proofs.RoundAfter as laws
-use borrow.Author.Rules.{rules}
 use Rattle.search.proofs.after.Goals as goal
 
 pub settle-requires : goal.settle-requires

@@ -1,7 +1,6 @@
 -- The cost is the first goal's label; goal and parents are what the passes over the records give. Assumes nothing.
 use mathlib.Core.Path.{refl}
 use Rattle.layout.proofs.Labels.{label_kept}
-use borrow.Author.Rules.{rules}
 use Rattle.search.proofs.found.Goals as goal
 
 pub label-cost-requires : goal.label-cost-requires

@@ -2,7 +2,6 @@
 -- Assumes nothing.
 use Prim.Native.Nat.{◌^◌, ◌<◌}
 use native.Mathlib.Omega.{arith}
-use borrow.Author.Rules.{rules}
 use Rattle.model.specs.Rounds.{limit_of}
 use Rattle.search.specs.Rounds.{high_of}
 use Rattle.search.specs.declared.High.TheVariants.{Unset, At}

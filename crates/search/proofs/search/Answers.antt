@@ -1,15 +1,10 @@
-use mathlib.Core.Path.{◌≡◌, ◌∙◌}
-use mathlib.Core.List.{List}
-use Prim.Native.Nat.{ℕ, ◌-◌}
+use mathlib.Core.Path.{◌≡◌}
 use native.Mathlib.Omega.{arith}
-use lib.ListN.{length, drop}
+use lib.ListN.{drop}
 use Rattle.layout.specs.Regions.{ends_at}
-use Rattle.layout.specs.Map.{problem_at, Holds}
+use Rattle.layout.specs.Map.{Holds}
 use Rattle.layout.proofs.Held.{holds_same}
-use Rattle.model.specs.Rounds.{trace}
-use Rattle.search.specs.Underway.{BetweenQueries}
 use Rattle.search.proofs.RoundTurns as turns
-use borrow.Author.Rules.{rules}
 use Rattle.search.proofs.search.Goals.{After-query-asked, After-slice_known-2-1}
 use Rattle.search.proofs.search.Goals as goal
 
@@ -19,15 +14,15 @@ same_map c = c.prepare.ensures.same_map
 holds : (c : After-slice_known-2-1) → (Holds c.args.site c.prepare.new.work)
 holds c =
     let same_map : (let a = c.args in drop (ends_at a.site.places) c.prepare.new.work ≡ drop (ends_at a.site.places) a.work.now) =
-        c.prepare.ensures.same_map in
+    c.prepare.ensures.same_map in
     holds_same _ _ _ same_map c.prepare.auto.work c.requires
 
 turn : (c : After-query-asked) → (let a = c.args in let loop = c.loop-site in turns.Turn a.site a.allowance c.prepare.new.work loop.work loop.round loop.expansions loop.queries c.limit_of-limit.result c.query-asked.new.work c.query-asked.result)
 turn c =
     let same_map : (let a = c.args in drop (ends_at a.site.places) c.prepare.new.work ≡ drop (ends_at a.site.places) a.work.now) =
-        c.prepare.ensures.same_map in
+    c.prepare.ensures.same_map in
     let holds : (Holds c.args.site c.prepare.new.work) =
-        holds_same _ _ _ same_map c.prepare.auto.work c.requires in
+    holds_same _ _ _ same_map c.prepare.auto.work c.requires in
     record {
       holds = holds;
       between = c.loop-site.invariant;

@@ -1,18 +1,11 @@
 -- The invariant: the queries done, whose total the allowance lasts for, and those from the round on are the search's; the round's record
 -- carries the outcome of the last one done; the map is as it was, and the open list is ready. The measure is the number of queries left.
 -- Assumes nothing.
-use mathlib.Core.Path.{◌≡◌, ◌∙◌}
-use mathlib.Core.List.{List}
-use Prim.Native.Nat.{ℕ, ◌-◌}
-use native.Mathlib.Omega.{arith}
-use lib.ListN.{length, drop}
-use Rattle.layout.specs.Regions.{ends_at}
-use Rattle.layout.specs.Map.{problem_at, Holds}
-use Rattle.layout.proofs.Held.{holds_same}
+use Prim.Native.Nat.{◌-◌}
+use lib.ListN.{length}
+use Rattle.layout.specs.Map.{problem_at}
 use Rattle.model.specs.Rounds.{trace}
 use Rattle.search.specs.Underway.{BetweenQueries}
-use Rattle.search.proofs.RoundTurns as turns
-use borrow.Author.Rules.{rules}
 use Rattle.search.proofs.search.Given as goal
 
 abbrev pub invariant-loop-site : goal.invariant-loop-site

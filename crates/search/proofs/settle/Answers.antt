@@ -2,7 +2,6 @@
 use mathlib.Core.Path.{refl}
 use borrow.Author.Tests.{eq-eqb, ne_eqb}
 use Rattle.model.specs.Rounds.{close_if, settle}
-use borrow.Author.Rules.{rules}
 use Rattle.search.proofs.settle.Goals as goal
 
 pub overflow_mul-result : goal.overflow_mul-result

@@ -1,9 +1,6 @@
 use mathlib.Core.Path.{◌≡◌}
-use Prim.Native.Nat.{◌-◌}
 use native.Mathlib.Omega.{arith}
 use lib.ListN.{get_or}
-use borrow.Author.Rules.{rules}
-use Rattle.sheet_reader.specs.Listing.{Passed}
 use Rattle.sheet_reader.proofs.Listing.{passed_none, passed_more, place_beyond, place_again, all_passed}
 use Rattle.sheet_reader.proofs.places_of.Goals as goal
 

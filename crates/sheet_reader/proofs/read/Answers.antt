@@ -3,7 +3,6 @@ use mathlib.Core.Path.{◌≡◌, refl, sym, ◌∙◌}
 use Prim.Native.Nat.{ℕ, ◌+◌, ◌-◌}
 use native.Mathlib.Omega.{arith}
 use lib.ListN.{length, take, drop}
-use borrow.Author.Rules.{rules}
 use Rattle.model.specs.Bytes.{u16}
 use Rattle.model.specs.Sheets.{read_sheet, read_record}
 use Rattle.sheet_reader.proofs.Framing.{read_short, read_unfit, read_one}

@@ -1,7 +1,6 @@
 -- No loop: each test is one of the definition's. Assumes nothing.
 use mathlib.Core.Path.{sym, ◌∙◌}
 use native.Mathlib.Omega.{arith}
-use borrow.Author.Rules.{rules}
 use Rattle.sheet_reader.proofs.Records.{no_route_unfit, no_route_beyond, no_route_sheet_lem}
 use Rattle.sheet_reader.proofs.read_no_route.Goals as goal
 

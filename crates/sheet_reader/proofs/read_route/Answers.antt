@@ -1,7 +1,6 @@
 -- No loop: each test is one of the definition's, in another order. Assumes nothing.
 use mathlib.Core.Path.{sym, ◌∙◌}
 use native.Mathlib.Omega.{arith}
-use borrow.Author.Rules.{rules}
 use Rattle.sheet_reader.proofs.Records.{Header, route_short, route_unfit, no_places, many_places, low_cost, high_cost, no_list, route_sheet_lem}
 use Rattle.sheet_reader.proofs.read_route.Goals as goal
 
@@ -17,7 +16,7 @@ returns-then-body-count c =
 pub returns-then-count-eq0 : goal.returns-then-count-eq0
 returns-then-count-eq0 c =
     let header : Header c.args.body.now c.u32_at-cost.result c.index-count.result =
-        record {
+    record {
       costs = c.u32_at-cost.ensures;
       counts = omega arith;
       fits = c.if-body-count.false;
@@ -27,7 +26,7 @@ returns-then-count-eq0 c =
 pub returns-then-count-gt-PLACES : goal.returns-then-count-gt-PLACES
 returns-then-count-gt-PLACES c =
     let header : Header c.args.body.now c.u32_at-cost.result c.index-count.result =
-        record {
+    record {
       costs = c.u32_at-cost.ensures;
       counts = omega arith;
       fits = c.if-body-count.false;
@@ -37,7 +36,7 @@ returns-then-count-gt-PLACES c =
 pub returns-then-cost-arcs : goal.returns-then-cost-arcs
 returns-then-cost-arcs c =
     let header : Header c.args.body.now c.u32_at-cost.result c.index-count.result =
-        record {
+    record {
       costs = c.u32_at-cost.ensures;
       counts = omega arith;
       fits = c.if-body-count.false;
@@ -47,7 +46,7 @@ returns-then-cost-arcs c =
 pub returns-then-arcs-cost : goal.returns-then-arcs-cost
 returns-then-arcs-cost c =
     let header : Header c.args.body.now c.u32_at-cost.result c.index-count.result =
-        record {
+    record {
       costs = c.u32_at-cost.ensures;
       counts = omega arith;
       fits = c.if-body-count.false;
@@ -57,7 +56,7 @@ returns-then-arcs-cost c =
 pub returns-then-places : goal.returns-then-places
 returns-then-places c =
     let header : Header c.args.body.now c.u32_at-cost.result c.index-count.result =
-        record {
+    record {
       costs = c.u32_at-cost.ensures;
       counts = omega arith;
       fits = c.if-body-count.false;
@@ -70,7 +69,7 @@ returns-then-places c =
 pub returns : goal.returns
 returns c =
     let header : Header c.args.body.now c.u32_at-cost.result c.index-count.result =
-        record {
+    record {
       costs = c.u32_at-cost.ensures;
       counts = omega arith;
       fits = c.if-body-count.false;

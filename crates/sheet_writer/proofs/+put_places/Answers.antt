@@ -16,7 +16,7 @@ put_places-requires t c =
 pub returns : goal.returns
 returns t c =
     let joined : c.if-arcs-gt0.sheet ≡ sets c.args.sheet.now 10 (put16s (earlier c.requires)) = elim c.if-arcs-gt0.branch [
-      then-arcs-gt0 w ↦ w.sheet-is ∙ earlier_written c.requires w.parent-u.ensures (omega (arith, w.if-arcs-gt0.true)) w.put_places.ensures
-    | else-arcs-gt0 w ↦ w.sheet-is ∙ none_earlier c.requires (omega (arith, w.if-arcs-gt0.false))
+      | then-arcs-gt0 w ↦ w.sheet-is ∙ earlier_written c.requires w.parent-u.ensures (omega (arith, w.if-arcs-gt0.true)) w.put_places.ensures
+      | else-arcs-gt0 w ↦ w.sheet-is ∙ none_earlier c.requires (omega (arith, w.if-arcs-gt0.false))
     ] in
     place_written c.requires joined c.put16.ensures

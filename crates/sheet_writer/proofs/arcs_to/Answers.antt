@@ -1,7 +1,4 @@
-use native.Mathlib.Omega.{arith}
-use Rattle.sheet_writer.proofs.Counting.{has_place, counting_begins, counting_place, counting_goes_on, counting_ends}
-use Prim.Native.Nat.{◌-◌}
-use Rattle.sheet_writer.specs.Places.{CountingArcs}
+use Rattle.sheet_writer.proofs.Counting.{counting_begins, counting_place, counting_goes_on, counting_ends}
 use Rattle.sheet_writer.proofs.arcs_to.Goals as goal
 
 pub loop-u-init : goal.loop-u-init

@@ -1,6 +1,4 @@
 -- The loop's invariant: the places before those counted lead to the word in hand. The measure is how many places are left of all.
-use native.Mathlib.Omega.{arith}
-use Rattle.sheet_writer.proofs.Counting.{has_place, counting_begins, counting_place, counting_goes_on, counting_ends}
 use Prim.Native.Nat.{◌-◌}
 use Rattle.sheet_writer.specs.Places.{CountingArcs}
 use Rattle.sheet_writer.proofs.arcs_to.Given as goal

@@ -1,6 +1,5 @@
 -- The fields stand one after another.
 use Rattle.sheet_writer.proofs.Sheets.{no_route_written}
-use borrow.Author.Rules.{rules}
 use Rattle.sheet_writer.proofs.no_route.Goals as goal
 
 pub returns : goal.returns

@@ -1,6 +1,5 @@
 -- The word read is the one that stands for the parent. Assumes nothing.
 use native.Mathlib.Omega.{arith}
-use borrow.Author.Rules.{rules}
 use Rattle.layout.proofs.Labels.{parent_word_lem}
 use Rattle.sheet_writer.proofs.parent.Goals as goal
 

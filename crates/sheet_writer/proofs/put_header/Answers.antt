@@ -1,5 +1,4 @@
 -- The fields stand one after another.
-use borrow.Author.Rules.{rules}
 use Rattle.sheet_writer.proofs.Sheets.{header_written}
 use Rattle.sheet_writer.proofs.put_header.Goals as goal
 

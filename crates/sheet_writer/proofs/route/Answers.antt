@@ -1,8 +1,6 @@
 -- The header, then the places of which the arcs were counted.
 use mathlib.Core.Path.{sym}
-use native.Mathlib.Omega.{arith}
-use borrow.Author.Rules.{rules}
-use Rattle.sheet_writer.proofs.Sheets.{few_arcs, fits_header, fits_places, route_written}
+use Rattle.sheet_writer.proofs.Sheets.{fits_places, route_written}
 use Rattle.sheet_writer.proofs.route.Goals as goal
 
 pub put_places-requires : goal.put_places-requires

@@ -1,7 +1,4 @@
-use Prim.Native.Nat.{◌-◌}
 use native.Mathlib.Omega.{arith}
-use borrow.Author.Rules.{rules}
-use Rattle.judge.specs.Factors.{RulesWalked}
 use Rattle.judge.proofs.FactorLaws.{rules_begin, rules_again, rules_end}
 use Rattle.judge.proofs.factors.break_rules.Goals as goal
 

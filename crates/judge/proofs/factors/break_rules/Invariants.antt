@@ -1,10 +1,7 @@
 -- The loop's invariant, `RulesWalked`: what is found so far, with what the factors of the classes from this one on will be, is what is found of all. The
 -- measure is the number of classes that are left. Assumes nothing.
 use Prim.Native.Nat.{◌-◌}
-use native.Mathlib.Omega.{arith}
-use borrow.Author.Rules.{rules}
 use Rattle.judge.specs.Factors.{RulesWalked}
-use Rattle.judge.proofs.FactorLaws.{rules_begin, rules_again, rules_end}
 use Rattle.judge.proofs.factors.break_rules.Given as goal
 
 abbrev pub invariant-loop-class : goal.invariant-loop-class

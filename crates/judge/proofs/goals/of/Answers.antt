@@ -1,9 +1,7 @@
-use mathlib.Core.Path.{refl, ap, ◌∙◌}
+use mathlib.Core.Path.{ap, ◌∙◌}
 use native.Mathlib.Omega.{arith}
-use borrow.Author.Rules.{rules}
-use Rattle.judge.specs.Goals.{note, GoalsWalked}
+use Rattle.judge.specs.Goals.{note}
 use Rattle.judge.proofs.GoalLaws.{walk_again, walk_checked}
-use Rattle.model.specs.Bytes.{u16s}
 use Rattle.judge.proofs.goals.of.Goals as goal
 
 pub loop-left-preserved : goal.loop-left-preserved

@@ -1,10 +1,6 @@
 -- `goals::of` meets its contract. The loop's invariant, `GoalsWalked`: what is noted so far, with the `left` goals from byte `from` on, is what
 -- is noted of all goals. The measure is `left`. Assumes nothing.
-use mathlib.Core.Path.{refl, ap, ◌∙◌}
-use native.Mathlib.Omega.{arith}
-use borrow.Author.Rules.{rules}
-use Rattle.judge.specs.Goals.{note, GoalsWalked}
-use Rattle.judge.proofs.GoalLaws.{walk_again, walk_checked}
+use Rattle.judge.specs.Goals.{GoalsWalked}
 use Rattle.model.specs.Bytes.{u16s}
 use Rattle.judge.proofs.goals.of.Given as goal
 

@@ -1,5 +1,4 @@
 -- `goals::with_goal` meets its contract. Assumes nothing.
-use borrow.Author.Rules.{rules}
 use Rattle.judge.specs.Goals.{note}
 use Rattle.judge.proofs.goals.with_goal.Goals as goal
 

@@ -1,6 +1,5 @@
 -- `marks::mark` meets its contract, by the tests of the place and of its mark. Assumes nothing.
 use borrow.Author.Tests.{eq-eqb, ne_eqb, lt-ltb, le-ltb}
-use borrow.Author.Rules.{rules}
 use Rattle.judge.specs.Marks.{marked, marked_by}
 use Rattle.judge.proofs.marks.mark.Goals as goal
 

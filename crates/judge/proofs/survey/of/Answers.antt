@@ -1,8 +1,5 @@
 use mathlib.Core.Path.{◌≡◌, refl, sym, ◌∙◌}
-use Prim.Native.Nat.{◌-◌}
 use native.Mathlib.Omega.{arith}
-use lib.ListN.{length}
-use borrow.Author.Rules.{rules}
 use Rattle.map.proofs.Records.{less_left}
 use Rattle.map.specs.Records.{read_at}
 use Rattle.map.specs.declared.record.Read.TheVariants.{Whole}

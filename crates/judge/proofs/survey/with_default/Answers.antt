@@ -1,8 +1,5 @@
 -- `survey::with_default` meets its contract: the fields are what the calls give. Assumes nothing.
-use mathlib.Core.Path.{ap, refl}
-use native.Mathlib.Omega.{arith}
-use borrow.Author.Rules.{rules}
-use Rattle.judge.specs.declared.survey.Survey.{Survey}
+use mathlib.Core.Path.{refl}
 use Rattle.judge.specs.Survey.{with_default}
 use Rattle.judge.proofs.survey.with_default.Goals as goal
 

@@ -1,6 +1,5 @@
 -- `survey::with_estimate` meets its contract: the number goes by the mark that was met. Assumes nothing.
 use mathlib.Core.Path.{◌∙◌}
-use borrow.Author.Rules.{rules}
 use Rattle.judge.specs.Survey.{noted, again_in, marks_by}
 use Rattle.judge.proofs.survey.with_estimate.Goals as goal
 

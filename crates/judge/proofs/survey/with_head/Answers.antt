@@ -1,7 +1,6 @@
 -- `survey::with_head` meets its contract, by the test of the count. Assumes nothing.
 use mathlib.Core.Path.{◌∙◌}
 use borrow.Author.Tests.{eq-eqb, ne_eqb}
-use borrow.Author.Rules.{rules}
 use Rattle.judge.specs.Survey.{with_head}
 use Rattle.judge.proofs.survey.with_head.Goals as goal
 

@@ -1,7 +1,6 @@
 -- `survey::with_item` meets its contract, kind by kind. Assumes nothing.
 use mathlib.Core.Path.{refl}
 use Rattle.judge.specs.Survey.{noted, again_in, marks_by}
-use borrow.Author.Rules.{rules}
 use Rattle.judge.proofs.survey.with_item.Goals as goal
 
 pub returns-in-Head : goal.returns-in-Head

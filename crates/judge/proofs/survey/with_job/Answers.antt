@@ -1,8 +1,4 @@
 -- `survey::with_job` meets its contract: the fields are what the calls give. Assumes nothing.
-use mathlib.Core.Path.{ap}
-use native.Mathlib.Omega.{arith}
-use borrow.Author.Rules.{rules}
-use Rattle.judge.specs.declared.survey.Survey.{Survey}
 use Rattle.judge.specs.Survey.{with_job}
 use Rattle.judge.proofs.survey.with_job.Goals as goal
 

@@ -1,5 +1,4 @@
 -- `verdict::judge` meets its contract: one law for each answer. Assumes nothing.
-use borrow.Author.Rules.{rules}
 use Rattle.judge.proofs.MarkLaws.{zeros_clear}
 use Rattle.judge.proofs.JudgeMap.{form_refused, formed}
 use Rattle.judge.proofs.verdict.judge.Goals as goal

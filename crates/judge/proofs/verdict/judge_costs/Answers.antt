@@ -1,6 +1,5 @@
 -- `verdict::judge_costs` meets its contract: one law for each answer. Assumes nothing.
 use mathlib.Core.Path.{sym, ◌∙◌}
-use borrow.Author.Rules.{rules}
 use Rattle.judge.proofs.JudgeCosts.{fitting, costs_refused, job_refused, one_job}
 use Rattle.judge.proofs.verdict.judge_costs.Goals as goal
 

@@ -1,6 +1,4 @@
 -- `verdict::judge_factors` meets its contract: one law for each answer. Assumes nothing.
-use borrow.Author.Rules.{rules}
-use Rattle.map.proofs.Factors.{eight_factors}
 use Rattle.judge.proofs.JudgeFactors.{factors_refused, right_factors}
 use Rattle.judge.proofs.verdict.judge_factors.Goals as goal
 

@@ -1,5 +1,4 @@
 -- `verdict::judge_job` meets its contract: one law for each answer. Assumes nothing.
-use borrow.Author.Rules.{rules}
 use Rattle.judge.proofs.JudgeJob.{goals_refused, accepted}
 use Rattle.judge.proofs.verdict.judge_job.Goals as goal
 

@@ -1,5 +1,4 @@
 -- `verdict::judge_map` meets its contract: one law for each answer. Assumes nothing.
-use borrow.Author.Rules.{rules}
 use Rattle.judge.proofs.JudgeMap.{range_refused, arcs_refused, map-refused, right-map}
 use Rattle.map.proofs.Sizes.{WithinLimits, within_limits, no_map}
 use Rattle.judge.proofs.verdict.judge_map.Goals.{In-Within}

@@ -1,6 +1,5 @@
 -- `waits::note` meets its contract: a wait by the test of what is noted of its place, anything else not at all. Assumes nothing.
 use native.Mathlib.Omega.{arith}
-use borrow.Author.Rules.{rules}
 use Rattle.judge.proofs.WaitLaws.{NotesWait, notes_wait, notes_none}
 use Rattle.judge.proofs.waits.note.Goals.{In-Wait}
 use borrow.Enum.Refused.{opened}

@@ -1,8 +1,4 @@
-use Prim.Native.Nat.{◌-◌}
-use lib.ListN.{length}
-use borrow.Author.Rules.{rules}
 use Rattle.model.specs.Stated.{stated_in}
-use Rattle.map.specs.Walks.{Walking}
 use Rattle.map.proofs.Reading.{Next}
 use Rattle.map.proofs.Walks.{Comes, walk_begins, walk_next, walk_comes, walk_fits, walk_less, walk_on, walk_ends}
 use Rattle.judge.proofs.WaitLaws.{NotingKept, noting_begins, noting_can, noting_step, noting_ends}
@@ -14,7 +10,7 @@ use Rattle.judge.proofs.waits.note_all.Goals as goal
 comes : (c : After-fitting_item-item) → let a = c.args in let l = c.loop-r in Comes (NotingKept (stated_in a.input.now)) a.input.now l.at (l.noted, l.twice) c.in-Whole.r c.fitting_item-item.result
 comes c =
     let next : Next c.args.input.now c.loop-r.at c.in-Whole.r =
-        walk_next c.loop-r.invariant _ c.read_at.ensures _ c.in-Whole.is in
+    walk_next c.loop-r.invariant _ c.read_at.ensures _ c.in-Whole.is in
     walk_comes c.loop-r.invariant next _ c.fitting_item-item.ensures
 
 pub loop-r-init : goal.loop-r-init
@@ -26,7 +22,7 @@ returns-in_default c = noting_ends (walk_ends c.loop-r.invariant _ c.read_at.ens
 pub fitting_item-item-requires : goal.fitting_item-item-requires
 fitting_item-item-requires c =
     let next : Next c.args.input.now c.loop-r.at c.in-Whole.r =
-        walk_next c.loop-r.invariant _ c.read_at.ensures _ c.in-Whole.is in
+    walk_next c.loop-r.invariant _ c.read_at.ensures _ c.in-Whole.is in
     walk_fits c.loop-r.invariant next
 
 pub note-again-requires : goal.note-again-requires

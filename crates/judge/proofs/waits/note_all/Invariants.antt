@@ -2,12 +2,9 @@
 -- left. Assumes nothing.
 use Prim.Native.Nat.{◌-◌}
 use lib.ListN.{length}
-use borrow.Author.Rules.{rules}
 use Rattle.model.specs.Stated.{stated_in}
 use Rattle.map.specs.Walks.{Walking}
-use Rattle.map.proofs.Reading.{Next}
-use Rattle.map.proofs.Walks.{Comes, walk_begins, walk_next, walk_comes, walk_fits, walk_less, walk_on, walk_ends}
-use Rattle.judge.proofs.WaitLaws.{NotingKept, noting_begins, noting_can, noting_step, noting_ends}
+use Rattle.judge.proofs.WaitLaws.{NotingKept}
 use Rattle.judge.proofs.waits.note_all.Given as goal
 
 abbrev pub invariant-loop-r : goal.invariant-loop-r

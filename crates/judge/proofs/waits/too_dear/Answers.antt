@@ -1,6 +1,5 @@
 -- `waits::too_dear` meets its contract: a lane of either kind is weighed at its cost, and nothing else is too dear. Assumes nothing.
 use mathlib.Core.Path.{◌∙◌}
-use borrow.Author.Rules.{rules}
 use Rattle.model.specs.Stated.{cost_under}
 use Rattle.map.proofs.Walks.{lane_said, measured_said}
 use Rattle.judge.proofs.WaitLaws.{lane_bounded, lane_priced, lane_weighed, weighs_none}

@@ -1,7 +1,7 @@
 -- `waits::wrong` meets its contract: without waits nothing is wrong; otherwise the two passes find it. Assumes nothing.
 use mathlib.Core.Path.{sym, ◌∙◌}
 use Rattle.judge.proofs.MarkLaws.{zeros_clear}
-use Rattle.judge.proofs.WaitLaws.{weighable, no_waits, waits_same}
+use Rattle.judge.proofs.WaitLaws.{no_waits, waits_same}
 use Rattle.judge.proofs.waits.wrong.Goals as goal
 
 pub returns-then-waits-eq0 : goal.returns-then-waits-eq0
