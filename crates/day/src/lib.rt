@@ -1,4 +1,6 @@
 // The day's report: each job of an input is run as if it were alone with the map, and the figures of all of them are given, with a tally by goal.
+#![tactic(auto)]
+
 mod host;
 
 ghost use Rattle.day.specs.Host.{ReportsFor};
