@@ -1,4 +1,6 @@
 // Program `report`: a map and the jobs of a day on standard input, the day's figures on standard output.
+#![tactic(auto)]
+
 ghost use Rattle.std.specs.Prelude.{◌+◌, ◌*◌, ◌≤◌, length, replicate};
 ghost use Rattle.model.specs.Limits.{max_places};
 ghost use Rattle.jobs.specs.Report.{numbers, report};
@@ -8,7 +10,6 @@ ghost use Rattle.report.specs.Printed.{count_room, wide_room, day_room, text_roo
 
 use console::{INPUT, Input, SHEET, WORK};
 use day::{Day, Status};
-use libc::STDIN_FILENO;
 use map::{Map, number};
 use tally::Tally;
 
@@ -126,17 +127,22 @@ fn text_of(input: &[u8], text: &mut [u8; TEXT]) -> usize
 }
 
 // The text goes out by one call, which ends at the first write that fails: what stands there then is the text's beginning, and no more follows.
-fn reply(input: &[u8]) {
+fn reply(rt: &HostRuntime, input: &[u8]) {
     let mut text = [0u8; TEXT];
     let bytes = text_of(input, &mut text);
-    console::print(&text[..bytes], b"report: cannot write standard output\n");
+    console::print(
+        &rt.stdout(),
+        &rt.stderr(),
+        &text[..bytes],
+        b"report: cannot write standard output\n",
+    );
 }
 
-fn main() {
+fn main(rt: HostRuntime) {
     let mut input = [0u8; INPUT + 1];
-    let read = console::read_all(STDIN_FILENO, &mut input);
+    let read = console::read_all(&mut rt.stdin(), &mut input);
     match read {
-        Input::Bytes(bytes) => reply(&input[..bytes]),
-        Input::Failed => console::complain(b"report: cannot read standard input\n"),
+        Input::Bytes(bytes) => reply(&rt, &input[..bytes]),
+        Input::Failed => console::complain(&rt.stderr(), b"report: cannot read standard input\n"),
     }
 }
