@@ -3,10 +3,9 @@ use mathlib.Core.Path.{◌≡◌, refl, sym}
 use mathlib.Core.List.{List}
 use Prim.Native.Nat.{ℕ, ◌≤◌}
 use lib.ListN.{length, replicate, length-replicate}
-use borrow.Author.Rules.{rules}
 use Rattle.jobs.specs.Entries.{map_in, entries}
 use Rattle.jobs.specs.Report.{max_input, max_entries}
-use Rattle.jobs.proofs.Reckonings.{front_length, map-fits, startable, many_bytes, many_entries, short_tally, all_reckoned}
+use Rattle.jobs.proofs.Reckonings.{front_length, startable, many_bytes, many_entries, short_tally, all_reckoned}
 use Rattle.jobs.proofs.reckon.Goals.{Else-count-gt-ENTRIES}
 use Rattle.jobs.proofs.reckon.Goals as goal
 

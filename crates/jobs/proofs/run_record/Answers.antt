@@ -1,8 +1,6 @@
 -- A job is put behind the map in the buffer, and the buffer's front is routed; what is no job is refused. Assumes nothing.
-use mathlib.Core.Path.{sym}
-use borrow.Author.Rules.{rules}
 use Rattle.area.specs.Part.{part}
-use Rattle.jobs.proofs.OneRecord.{bytes_fit, other_run, whole_front, job_run}
+use Rattle.jobs.proofs.OneRecord.{other_run, job_run}
 use Rattle.jobs.proofs.run_record.Goals as goal
 
 pub returns-then-r-ne-JOB_KIND : goal.returns-then-r-ne-JOB_KIND

@@ -1,8 +1,5 @@
-use Prim.Native.Nat.{◌-◌}
 use native.Mathlib.Omega.{arith}
-use lib.ListN.{length}
-use borrow.Author.Rules.{rules}
-use Rattle.report.proofs.Counts.{Counted, none-counted, one_counted, all_counted}
+use Rattle.report.proofs.Counts.{none-counted, one_counted}
 use Rattle.report.proofs.put_counts.Goals as goal
 
 pub loop-n-init : goal.loop-n-init

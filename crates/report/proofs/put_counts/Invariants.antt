@@ -1,9 +1,7 @@
 -- The loop's invariant: the lines of the first n counts are put. The measure is the number of counts that are left. Assumes nothing.
 use Prim.Native.Nat.{◌-◌}
-use native.Mathlib.Omega.{arith}
 use lib.ListN.{length}
-use borrow.Author.Rules.{rules}
-use Rattle.report.proofs.Counts.{Counted, none-counted, one_counted, all_counted}
+use Rattle.report.proofs.Counts.{Counted}
 use Rattle.report.proofs.put_counts.Given as goal
 
 abbrev pub invariant-loop-n : goal.invariant-loop-n

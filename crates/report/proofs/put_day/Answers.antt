@@ -2,7 +2,6 @@
 use mathlib.Core.Path.{◌≡◌}
 use lib.ListN.{length}
 use Rattle.jobs.specs.Report.{numbers}
-use native.Mathlib.Omega.{arith}
 use borrow.Author.Rules.{rules}
 use Rattle.report.proofs.Lines.{too_long_lem, short_tally, reported}
 use Rattle.report.proofs.put_day.Goals as goal

@@ -1,5 +1,4 @@
 -- No loop: what is put of the report of the input is what is printed of it. Assumes nothing.
-use borrow.Author.Rules.{rules}
 use Rattle.report.specs.Printed.{reported, printed}
 use Rattle.report.proofs.Printing.{prints}
 use Rattle.report.proofs.text_of.Goals as goal

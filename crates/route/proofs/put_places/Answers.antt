@@ -2,7 +2,7 @@
 use mathlib.Core.Path.{◌≡◌, sym, ap}
 use Prim.Native.Nat.{◌≤◌}
 use native.Mathlib.Omega.{arith}
-use lib.ListN.{take, length-take}
+use lib.ListN.{take}
 use lib.Seq.{length-take-le}
 use borrow.Author.Rules.{rules}
 use Rattle.model.specs.Limits.{max_places}
@@ -27,5 +27,5 @@ pub returns : goal.returns
 unfolding places_on
 returns c =
     let listed : take c.index32-count.result c.wide-places.result ≡ places_on c.args.sheet.now =
-        rw (c.index32-count.ensures, c.wide-places.ensures) (ap (λ d. take d.count d.places) c.read-reading.ensures) in
+    rw (c.index32-count.ensures, c.wide-places.ensures) (ap (λ d. take d.count d.places) c.read-reading.ensures) in
     rw listed at c.put_line.ensures

@@ -4,8 +4,6 @@ use Prim.Native.Nat.{◌≤◌}
 use native.Mathlib.Omega.{arith}
 use lib.ListN.{length}
 use lib.Seq.{length-take-le}
-use borrow.Author.Rules.{rules}
-use Rattle.model.specs.Answer.{Result}
 use Rattle.answer.specs.Numbers.{answer_of}
 use Rattle.text.proofs.Puts.{put_then}
 use Rattle.route.specs.Printed.{answered}
@@ -23,7 +21,7 @@ within : (c : After-index32-bytes) → c.index32-bytes.result ≤ length c.route
 unfolding answered
 within c =
     let called : (record { answer = answer_of c.route-answer.result; work = c.route-answer.new.work; sheet = c.route-answer.new.sheet }) ≡ answered c.args.input.now =
-        c.route-answer.ensures.result in
+    c.route-answer.ensures.result in
     let w = rw (← called) at (sheet_within c.args.input.now) in
     omega arith
 

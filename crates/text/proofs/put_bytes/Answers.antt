@@ -1,12 +1,8 @@
-use mathlib.Core.Path.{◌≡◌, refl}
-use Prim.Native.Nat.{◌+◌, ◌-◌, ◌≤◌}
 use native.Mathlib.Numerals.{add-one}
 use native.Mathlib.Omega.{arith}
-use lib.ListN.{length, take}
-use lib.Seq.{take-suc, take_all}
+use lib.Seq.{take-suc}
 use borrow.Author.Rules.{rules}
-use Rattle.text.specs.Text.{Put}
-use Rattle.text.proofs.Puts.{put_none, put_then}
+use Rattle.text.proofs.Puts.{put_then}
 use Rattle.text.proofs.put_bytes.Goals as goal
 
 pub loop-i-preserved : goal.loop-i-preserved

@@ -1,6 +1,5 @@
 -- No loop: the first number is put as it is, a later one after a blank. Assumes nothing.
 use native.Mathlib.Omega.{arith}
-use borrow.Author.Rules.{rules}
 use Rattle.text.proofs.Lines.{first_in_line, next_in_line}
 use Rattle.text.proofs.Puts.{put_then}
 use Rattle.text.proofs.put_in_line.Goals as goal

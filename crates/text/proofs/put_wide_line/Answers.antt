@@ -1,9 +1,6 @@
-use Prim.Native.Nat.{◌-◌}
 use native.Mathlib.Omega.{arith}
-use lib.ListN.{length}
-use borrow.Author.Rules.{rules}
 use Rattle.text.proofs.Decimals.{short_64}
-use Rattle.text.proofs.Lines.{Begun, none-begun, begun_more, line_ended}
+use Rattle.text.proofs.Lines.{none-begun, begun_more, line_ended}
 use Rattle.text.proofs.put_wide_line.Goals as goal
 
 pub loop-i-init : goal.loop-i-init

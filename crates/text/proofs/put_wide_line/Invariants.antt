@@ -1,10 +1,7 @@
 -- The loop's invariant: the first i numbers are put, in at most 21 bytes each. The measure is the number of numbers that are left. Assumes nothing.
 use Prim.Native.Nat.{◌-◌}
-use native.Mathlib.Omega.{arith}
 use lib.ListN.{length}
-use borrow.Author.Rules.{rules}
-use Rattle.text.proofs.Decimals.{short_64}
-use Rattle.text.proofs.Lines.{Begun, none-begun, begun_more, line_ended}
+use Rattle.text.proofs.Lines.{Begun}
 use Rattle.text.proofs.put_wide_line.Given as goal
 
 abbrev pub invariant-loop-i : goal.invariant-loop-i

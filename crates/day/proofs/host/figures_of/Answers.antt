@@ -1,9 +1,6 @@
 use mathlib.Core.Path.{◌≡◌, ◌∙◌}
-use Prim.Native.Nat.{◌-◌, ◌≤◌}
 use native.Mathlib.Omega.{arith}
-use lib.Seq.{paste}
-use mir.Syntax.{w32, w64}
-use borrow.Author.Rules.{rules, elem_fits_field}
+use borrow.Author.Rules.{rules}
 use Rattle.jobs.specs.Report.{numbers}
 use Rattle.day.proofs.Telling.{one_count_more, all_figures}
 use Rattle.day.proofs.host.figures_of.Goals as goal

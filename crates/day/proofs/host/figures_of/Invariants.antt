@@ -1,12 +1,8 @@
 -- The loop's invariant: the first n counts stand after the totals. The measure is the number of counts that are left. Assumes nothing.
-use mathlib.Core.Path.{◌≡◌, ◌∙◌}
+use mathlib.Core.Path.{◌≡◌}
 use Prim.Native.Nat.{◌-◌, ◌≤◌}
-use native.Mathlib.Omega.{arith}
 use lib.Seq.{paste}
-use mir.Syntax.{w32, w64}
-use borrow.Author.Rules.{rules, elem_fits_field}
 use Rattle.jobs.specs.Report.{numbers}
-use Rattle.day.proofs.Telling.{one_count_more, all_figures}
 use Rattle.day.proofs.host.figures_of.Given as goal
 
 abbrev pub invariant-loop-n : goal.invariant-loop-n

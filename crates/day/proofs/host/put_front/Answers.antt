@@ -1,8 +1,4 @@
-use Prim.Native.Nat.{◌-◌, ◌<◌}
-use native.Mathlib.Omega.{arith}
-use lib.ListN.{length}
-use borrow.Author.Rules.{rules}
-use Rattle.day.proofs.Telling.{Putting, next_there, putting_more, putting_ends}
+use Rattle.day.proofs.Telling.{putting_more, putting_ends}
 use Rattle.day.proofs.host.put_front.Goals as goal
 
 pub loop-i-preserved : goal.loop-i-preserved

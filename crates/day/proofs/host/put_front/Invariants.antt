@@ -1,9 +1,7 @@
 -- The loop's invariant: the first i numbers are put. The measure is the number of places that are left. Assumes nothing.
-use Prim.Native.Nat.{◌-◌, ◌<◌}
-use native.Mathlib.Omega.{arith}
+use Prim.Native.Nat.{◌-◌}
 use lib.ListN.{length}
-use borrow.Author.Rules.{rules}
-use Rattle.day.proofs.Telling.{Putting, next_there, putting_more, putting_ends}
+use Rattle.day.proofs.Telling.{Putting}
 use Rattle.day.proofs.host.put_front.Given as goal
 
 abbrev pub invariant-loop-i : goal.invariant-loop-i

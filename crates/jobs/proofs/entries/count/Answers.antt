@@ -1,11 +1,8 @@
 use mathlib.Core.Path.{◌≡◌, sym, ◌∙◌}
-use Prim.Native.Nat.{◌-◌}
-use lib.ListN.{length}
-use borrow.Author.Rules.{rules}
 use Rattle.map.specs.declared.record.Read.TheVariants.{Whole}
 use Rattle.map.specs.Records.{read_at}
 use Rattle.map.proofs.Records.{less_left}
-use Rattle.jobs.proofs.EntryLaws.{CountLeft, count_begins, count_goes_on, count_broken, count_ends}
+use Rattle.jobs.proofs.EntryLaws.{count_begins, count_goes_on, count_broken, count_ends}
 use Rattle.jobs.proofs.entries.count.Goals.{In-Whole}
 use Rattle.jobs.proofs.entries.count.Goals as goal
 

@@ -1,13 +1,8 @@
 -- The loop's invariant: `entries` of the entries stand before byte `at`, and the others from there on. The measure is the bytes that are left.
 -- Assumes nothing.
-use mathlib.Core.Path.{◌≡◌, sym, ◌∙◌}
 use Prim.Native.Nat.{◌-◌}
 use lib.ListN.{length}
-use borrow.Author.Rules.{rules}
-use Rattle.map.specs.declared.record.Read.TheVariants.{Whole}
-use Rattle.map.specs.Records.{read_at}
-use Rattle.map.proofs.Records.{less_left}
-use Rattle.jobs.proofs.EntryLaws.{CountLeft, count_begins, count_goes_on, count_broken, count_ends}
+use Rattle.jobs.proofs.EntryLaws.{CountLeft}
 use Rattle.jobs.proofs.entries.count.Given as goal
 
 abbrev pub invariant-loop-r : goal.invariant-loop-r

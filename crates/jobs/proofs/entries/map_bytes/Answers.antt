@@ -1,12 +1,9 @@
 use mathlib.Core.Path.{◌≡◌, sym, ◌∙◌}
-use Prim.Native.Nat.{◌-◌}
-use lib.ListN.{length}
-use borrow.Author.Rules.{rules}
 use Rattle.map.specs.declared.record.Read.TheVariants.{Whole}
 use Rattle.map.specs.Records.{read_at}
 use Rattle.map.proofs.Records.{less_left}
 use Rattle.map.proofs.Reading.{none_left}
-use Rattle.jobs.proofs.EntryLaws.{MapLeft, map-begins, map_ends, map_ends_at_job, map_goes_on}
+use Rattle.jobs.proofs.EntryLaws.{map-begins, map_ends, map_ends_at_job, map_goes_on}
 use Rattle.jobs.proofs.entries.map_bytes.Goals.{In-Whole}
 use borrow.Enum.Refused.{opened}
 use Rattle.jobs.proofs.entries.map_bytes.Goals as goal

@@ -1,6 +1,5 @@
 -- Both stores raise the element of the goal, by one and by the cost. Assumes nothing.
 use mathlib.Core.Path.{refl}
-use borrow.Author.Rules.{rules}
 use Rattle.jobs.specs.Steps.{raised}
 use Rattle.jobs.proofs.figures.add_route.Goals as goal
 

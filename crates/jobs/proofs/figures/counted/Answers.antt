@@ -1,6 +1,4 @@
 -- The element of the number is raised by one; the other figures stay. Assumes nothing.
-use native.Mathlib.Omega.{arith}
-use borrow.Author.Rules.{rules}
 use Rattle.jobs.specs.Steps.{counted}
 use Rattle.jobs.proofs.figures.counted.Goals as goal
 

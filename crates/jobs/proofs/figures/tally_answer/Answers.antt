@@ -1,7 +1,5 @@
 -- What is no route leaves the tallies. A route's sheet holds the goal in its last two bytes, and the route can be added there. Assumes nothing.
 use mathlib.Core.Path.{◌≡◌}
-use native.Mathlib.Omega.{arith}
-use borrow.Author.Rules.{rules}
 use Rattle.jobs.specs.Steps.{last_on}
 use Rattle.jobs.proofs.Tallying.{tallies_none, tallies_route}
 use Rattle.jobs.proofs.figures.tally_answer.Goals.{After-index-goal}

@@ -1,7 +1,6 @@
 -- Each return goes by the tests of the number that led there, and the figures that a call leaves alone still have room. Assumes nothing.
 use mathlib.Core.Logic.{inl, inr}
 use borrow.Author.Tests.{eq-eqb, ne_eqb}
-use borrow.Author.Rules.{rules}
 use Rattle.jobs.specs.Steps.{counted, with_expansions, noted}
 use Rattle.jobs.proofs.figures.with_answer.Goals as goal
 

@@ -1,5 +1,4 @@
 -- The sum and the larger are what the calls give; the other figures stay. Assumes nothing.
-use borrow.Author.Rules.{rules}
 use Rattle.jobs.specs.Steps.{with_cost}
 use Rattle.jobs.proofs.figures.with_cost.Goals as goal
 
