@@ -23,8 +23,7 @@ pub fn report(input: &[u8], work: &mut [u32], sheet: &mut [u8], tally: &mut [Tal
 }
 
 // The call for a host: how the report ended comes back, and the figures are in the lent numbers.
-#[unsafe(no_mangle)]
-pub extern "C" fn r3_report(
+pub fn r3_report(
     input: &[u8],
     work: &mut [u32],
     sheet: &mut [u8],
