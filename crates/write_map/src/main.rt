@@ -63,6 +63,9 @@ fn main(rt: HostRuntime) {
     let read = console::read_all(&mut rt.stdin(), &mut input);
     match read {
         Input::Bytes(bytes) => reply(&rt, &input[..bytes]),
-        Input::Failed => console::complain(&rt.stderr(), b"write_map: cannot read standard input\n"),
+        Input::Failed => console::complain(
+            &rt.stderr(),
+            b"write_map: cannot read standard input\n",
+        ),
     }
 }
