@@ -1,7 +1,7 @@
 // What the programs share: the sizes of their memory, reading to the end, failing aloud.
 //
-// A program's exit status is the same whatever it met. A call that a signal interrupts before it moves a byte counts as failed, like any
-// other that fails.
+// A program's exit status is 0 whatever it met. A read that a signal interrupts before it moves a byte counts as failed, like any other
+// that fails; such a write is tried again.
 #![tactic(auto)]
 
 ghost use Rattle.console.specs.Reading.{Within};

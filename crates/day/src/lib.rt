@@ -10,7 +10,7 @@ pub use jobs::{Day, Status};
 use map::Map;
 use tally::Tally;
 
-// The report of a day. What goes over the lent list of records is thin: the figures and the tallies are reckoned as plain numbers, and then put into it.
+// The report of a day. The figures and the tallies are reckoned as plain numbers, and then put into the lent list of records.
 pub fn report(input: &[u8], work: &mut [u32], sheet: &mut [u8], tally: &mut [Tally]) -> Day
     ensures { Reports input.now work.old sheet.old tally.old result
         work.new sheet.new tally.new }

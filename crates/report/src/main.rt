@@ -86,7 +86,7 @@ fn put_goal(text: &mut [u8], at: usize, t: Tally) -> usize
     text::put_wide_line(text, at, &numbers)
 }
 
-// The goals of a tally that were reached. It goes over a list of records, so it is proved by a walk of its own, and kept thin.
+// The goals of a tally that were reached.
 fn put_goals(text: &mut [u8], at: usize, tally: &[Tally]) -> usize
     requires { at + wide_room * length tally.now ≤ length text.old }
     ensures { Put (goal_lines tally.now) at text.old text.new result }
@@ -101,7 +101,7 @@ fn put_goals(text: &mut [u8], at: usize, tally: &[Tally]) -> usize
     end
 }
 
-// All that is printed of an input. It lends a list of records, so it is thin too.
+// All that is printed of an input.
 fn put_report(text: &mut [u8], input: &[u8], work: &mut [u32], sheet: &mut [u8]) -> usize
     requires { text_room ≤ length text.old }
     ensures { Put (text_of (report input.now work.old sheet.old (replicate max_places no_tally))) 0
