@@ -1,10 +1,13 @@
 // Program `cases`: stored cases on standard input, each through the whole call; on standard output how many were right and wrong, by group.
 // tests/cases.py makes the stored file, and says what it holds.
+#![tactic(auto)]
+
 ghost use Rattle.std.specs.Prelude.{◌≡◌, ◌≤◌, true, length};
 
 use answer::Answer;
 use area::{index32, u32_at};
-use libc::{STDIN_FILENO, STDOUT_FILENO};
+use std::io;
+use std::io::Read;
 
 // The largest case, and a bound on the number of cases.
 const INPUT: usize = 524288;
@@ -21,7 +24,7 @@ const FRONT: usize = 48;
 const GROUPS: usize = 8;
 
 // A case's numbers: bytes of its input, words and bytes lent, the answer, and the work words that are 0 after the call.
-#[derive(Drop)]
+#[derive(Clone, Copy)]
 struct Case {
     group: usize,
     input: usize,
@@ -62,70 +65,63 @@ enum Outcome {
     End,
 }
 
-fn print(text: &[u8]) {
-    io::write_all(STDOUT_FILENO, text);
+fn print_unreadable(rt: &HostRuntime, nth: u64) -> io::Result<()> {
+    println!(rt; "case {nth}: cut short, too large, or one too many")
 }
 
-fn print_number(x: u64) {
-    io::print_decimal(STDOUT_FILENO, x);
+fn print_wrong(rt: &HostRuntime, nth: u64, given: u32, expected: u32) -> io::Result<()> {
+    println!(rt; "case {nth}: number {given}, expected {expected}")
 }
 
-fn print_case(nth: u64) {
-    print(b"case ");
-    print_number(nth);
-}
-
-fn print_unreadable(nth: u64) {
-    print_case(nth);
-    print(b": cut short, too large, or one too many\n");
-}
-
-fn print_wrong(nth: u64, given: u32, expected: u32) {
-    print_case(nth);
-    print(b": number ");
-    print_number(given as u64);
-    print(b", expected ");
-    print_number(expected as u64);
-    print(b"\n");
-}
-
-fn print_name(group: usize) {
+fn name(group: usize) -> &'static str {
     match group {
-        0 => print(b"document 01"),
-        1 => print(b"refusals"),
-        2 => print(b"ends of ranges"),
-        3 => print(b"consistent estimates"),
-        4 => print(b"admissible estimates with gaps"),
-        5 => print(b"overstating estimates"),
-        6 => print(b"damaged inputs"),
-        _ => print(b"fewest places"),
+        0 => "document 01",
+        1 => "refusals",
+        2 => "ends of ranges",
+        3 => "consistent estimates",
+        4 => "admissible estimates with gaps",
+        5 => "overstating estimates",
+        6 => "damaged inputs",
+        _ => "fewest places",
     }
 }
 
-fn print_group(group: usize, right: u64, wrong: u64) {
-    print_name(group);
-    print(b": ");
-    print_number(right);
-    print(b" right, ");
-    print_number(wrong);
-    print(b" wrong\n");
+fn print_group(rt: &HostRuntime, group: usize, right: u64, wrong: u64) -> io::Result<()> {
+    let name = name(group);
+    println!(rt; "{name}: {right} right, {wrong} wrong")
 }
 
 // A line for each group.
-fn print_groups(right: &[u64; GROUPS], wrong: &[u64; GROUPS]) {
-    let mut group = 0;
-    while group < GROUPS {
-        print_group(group, right[group], wrong[group]);
-        group += 1;
+fn print_groups(rt: &HostRuntime, right: &[u64; GROUPS], wrong: &[u64; GROUPS]) -> io::Result<()> {
+    for group in 0..GROUPS {
+        print_group(rt, group, right[group], wrong[group])?;
     }
+    Ok(())
+}
+
+// Reads until room is full, the input ends or a read fails: how many bytes stand at its front then.
+fn read_full(from: &mut io::Stdin, room: &mut [u8]) -> usize
+    ensures { result ≤ length room.new }
+{
+    let mut done = 0;
+    while done < room.len() {
+        let Ok(more) = from.read(&mut room[done..]) else {
+            return done;
+        };
+        if more == 0 {
+            return done;
+        }
+        done += more;
+    }
+    done
 }
 
 // Reads so many bytes to the front of `room`: false where it has fewer, or what is left of the file.
-fn read(room: &mut [u8], bytes: usize) -> bool {
+fn read(from: &mut io::Stdin, room: &mut [u8], bytes: usize) -> bool {
     if bytes > room.len() {
         return false;
     }
-    let got = io::read_full(STDIN_FILENO, &mut room[0..bytes]);
+    let got = read_full(from, &mut room[0..bytes]);
     got == bytes
 }
 
@@ -165,11 +161,11 @@ fn same_words(a: &[u32], b: &[u32]) -> bool
 }
 
 // Puts down what the areas should hold after the call; the sheet comes next in the file.
-fn put_expected(case: Case, work: &mut [u32], sheet: &mut [u8]) -> bool {
+fn put_expected(from: &mut io::Stdin, case: Case, work: &mut [u32], sheet: &mut [u8]) -> bool {
     let answer = case.answer;
     mark_words(work, case.zeros);
     mark_bytes(sheet);
-    read(sheet, index32(answer.sheet_bytes))
+    read(from, sheet, index32(answer.sheet_bytes))
 }
 
 // Calls with as much of the marked areas as the case lends.
@@ -200,71 +196,87 @@ fn same_areas(
     expected_work: &[u32; WORK],
     expected_sheet: &[u8; SHEET],
 ) -> bool {
-    same_words(work, expected_work) && check::same(sheet, expected_sheet)
+    same_words(work, expected_work) && *sheet == *expected_sheet
 }
 
 // Runs the nth case, whose input is read.
-fn run(nth: u64, case: Case, input: &[u8]) -> Outcome {
+fn run(rt: &HostRuntime, nth: u64, case: Case, input: &[u8]) -> io::Result<Outcome> {
     let mut expected_work = [0u32; WORK];
     let mut expected_sheet = [0u8; SHEET];
     if case.words > WORK
         || case.bytes > SHEET
-        || !put_expected(case, &mut expected_work, &mut expected_sheet)
+        || !put_expected(
+            &mut rt.stdin(),
+            case,
+            &mut expected_work,
+            &mut expected_sheet,
+        )
     {
-        return Outcome::Unreadable;
+        return Ok(Outcome::Unreadable);
     }
     let mut work = [0u32; WORK];
     let mut sheet = [0u8; SHEET];
     let answer = call(case, input, &mut work, &mut sheet);
     let expected = case.answer;
     if same_answer(answer, expected) && same_areas(&work, &sheet, &expected_work, &expected_sheet) {
-        return Outcome::Right(case.group);
+        return Ok(Outcome::Right(case.group));
     }
-    print_wrong(nth, answer.number, expected.number);
-    Outcome::Wrong(case.group)
+    print_wrong(rt, nth, answer.number, expected.number)?;
+    Ok(Outcome::Wrong(case.group))
+}
+
+// Reads the input of the nth case, for which there is room, and runs the case.
+fn run_next(rt: &HostRuntime, nth: u64, case: Case, room: &mut [u8]) -> io::Result<Outcome> {
+    let bytes = case.input;
+    if case.group >= GROUPS || bytes > room.len() || !read(&mut rt.stdin(), room, bytes) {
+        return Ok(Outcome::Unreadable);
+    }
+    run(rt, nth, case, &room[0..bytes])
 }
 
 // Reads the nth case and runs it.
-fn next(nth: u64) -> Outcome {
+fn next(rt: &HostRuntime, nth: u64) -> io::Result<Outcome> {
     let mut front = [0u8; FRONT];
-    let got = io::read_full(STDIN_FILENO, &mut front);
+    let got = read_full(&mut rt.stdin(), &mut front);
     if got == 0 {
-        return Outcome::End;
+        return Ok(Outcome::End);
     }
-    let case = Case::new(&front);
-    let bytes = case.input;
-    let mut input = [0u8; INPUT];
-    if got < FRONT || case.group >= GROUPS || bytes > INPUT || !read(&mut input, bytes) {
-        return Outcome::Unreadable;
+    if got < FRONT {
+        return Ok(Outcome::Unreadable);
     }
-    run(nth, case, &input[0..bytes])
+    let mut input = vec![in rt.alloc(); 0u8; INPUT]?;
+    run_next(rt, nth, Case::new(&front), &mut input)
 }
 
 fn count(tally: &mut [u64], group: usize) {
     if group < tally.len() {
-        tally[group] = std::num::wrapping_add_u64(tally[group], 1);
+        tally[group] = tally[group].wrapping_add(1);
     }
 }
 
 // Runs every case to the end of the file.
-fn run_all(right: &mut [u64; GROUPS], wrong: &mut [u64; GROUPS]) {
+fn run_all(
+    rt: &HostRuntime,
+    right: &mut [u64; GROUPS],
+    wrong: &mut [u64; GROUPS],
+) -> io::Result<()> {
     let mut nth = 1;
     while nth < CASES {
-        let outcome = next(nth);
+        let outcome = next(rt, nth)?;
         match outcome {
             Outcome::Right(group) => count(right, group),
             Outcome::Wrong(group) => count(wrong, group),
             Outcome::Unreadable => break,
-            Outcome::End => return,
+            Outcome::End => return Ok(()),
         }
         nth += 1;
     }
-    print_unreadable(nth);
+    print_unreadable(rt, nth)
 }
 
-fn main() {
+fn main(rt: HostRuntime) -> io::Result<()> {
     let mut right = [0u64; GROUPS];
     let mut wrong = [0u64; GROUPS];
-    run_all(&mut right, &mut wrong);
-    print_groups(&right, &wrong);
+    run_all(&rt, &mut right, &mut wrong)?;
+    print_groups(&rt, &right, &wrong)
 }

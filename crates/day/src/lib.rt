@@ -1,4 +1,6 @@
 // The day's report: each job of an input is run as if it were alone with the map, and the figures of all of them are given, with a tally by goal.
+#![tactic(auto)]
+
 mod host;
 
 ghost use Rattle.day.specs.Host.{ReportsFor};
@@ -8,7 +10,7 @@ pub use jobs::{Day, Status};
 use map::Map;
 use tally::Tally;
 
-// The report of a day. What goes over the lent list of records is thin: the figures and the tallies are reckoned as plain numbers, and then put into it.
+// The report of a day. The figures and the tallies are reckoned as plain numbers, and then put into the lent list of records.
 pub fn report(input: &[u8], work: &mut [u32], sheet: &mut [u8], tally: &mut [Tally]) -> Day
     ensures { Reports input.now work.old sheet.old tally.old result
         work.new sheet.new tally.new }
@@ -21,8 +23,7 @@ pub fn report(input: &[u8], work: &mut [u32], sheet: &mut [u8], tally: &mut [Tal
 }
 
 // The call for a host: how the report ended comes back, and the figures are in the lent numbers.
-#[unsafe(no_mangle)]
-pub extern "C" fn r3_report(
+pub fn r3_report(
     input: &[u8],
     work: &mut [u32],
     sheet: &mut [u8],

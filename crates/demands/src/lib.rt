@@ -1,1 +1,2 @@
 // No code: the demands, of the public calls as their contracts give them (specs/), proved (proofs/).
+#![tactic(auto)]

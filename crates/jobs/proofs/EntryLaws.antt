@@ -14,7 +14,7 @@ use borrow.Author.Tests.{leb-true, eq-eqb, ne_eqb}
 use Rattle.model.specs.Bytes.{Bytes}
 use Rattle.model.specs.Framing.{Record, Framed, stop, push, frame}
 use Rattle.model.specs.Items.{job_kind, Item, item_of, job_in}
-use Rattle.model.specs.Lists.{isGiven}
+use Rattle.model.specs.Lists.{is_given}
 use Rattle.model.specs.Sums.{sum_over}
 use Rattle.model.proofs.Bytes.{take_bytes, drop_bytes, append_bytes}
 use Rattle.model.proofs.Framing.{frame-none, frame_short, frame_cons, frame_more, frame_whole}
@@ -281,10 +281,10 @@ module _ (input : List ℕ) where
 
 -- a record is a job by its kind alone
 pub job_by_kind : (r : Record) → is_job r ≡ eqb r.kind job_kind
-unfolding is_job isGiven job_in
+unfolding is_job is_given job_in
 job_by_kind r = go (item_of r) (kind_of r)
   where
-    go : (i : Item) → KindOf r i → isGiven (job_in i) ≡ eqb r.kind job_kind
+    go : (i : Item) → KindOf r i → is_given (job_in i) ≡ eqb r.kind job_kind
     go i (is-head k) = rw k
     go i (is_lane k) = rw k
     go i (is_estimate k) = rw k

@@ -3,7 +3,7 @@
 use Rattle.std.specs.Prelude.{Bool, cond, not, List, [], ◌∷◌, ◌++◌, ℕ, ◌+◌, length, take, drop}
 use Rattle.model.specs.Framing.{Record, frame}
 use Rattle.model.specs.Items.{item_of, job_in}
-use Rattle.model.specs.Lists.{isGiven}
+use Rattle.model.specs.Lists.{is_given}
 use Rattle.model.specs.Sums.{sum_over}
 
 -- What counts as one job.
@@ -14,7 +14,7 @@ pub data Entry : Type 0 where
   refused : (number : ℕ) → Entry
 
 unfoldable pub is_job : Record → Bool
-is_job r = isGiven (job_in (item_of r))
+is_job r = is_given (job_in (item_of r))
 
 -- the records before the first job, and those from it on
 unfoldable pub before_job : List Record → List Record

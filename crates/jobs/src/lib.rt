@@ -1,4 +1,6 @@
 // The jobs of a day, one after another, each alone with the map: the day's figures, and the tallies by goal, as plain numbers.
+#![tactic(auto)]
+
 mod entries;
 mod figures;
 

@@ -20,14 +20,14 @@ use Rattle.map.specs.declared.record.Item.TheVariants.{Head, Lane, Measured, Est
 use Rattle.map.specs.Items.{is_misfit, meant}
 use Rattle.model.specs.Items as model
 use Rattle.model.specs.Limits.{max_estimate}
-use Rattle.model.specs.Lists.{any, isGiven, consIf, filter_map, member, repeats}
+use Rattle.model.specs.Lists.{any, is_given, cons_if, filter_map, member, repeats}
 use Rattle.model.specs.Refusals.{Row, places_in, names_outside, outside_map, is_free, free_arc, large_estimate, two_estimates, mismeasured, wrong_measure, map_rows}
 use Rattle.model.specs.Refusals.{begins_with_head, wrong_head, ends_with_job}
 use Rattle.model.specs.Stated.{stated_by}
 
 -- ---- What they state
 
-pub ends_snoc : (is : List model.Item) (j : model.Item) → ends_with_job (is ++ (j ∷ [])) ≡ isGiven (model.job_in j)
+pub ends_snoc : (is : List model.Item) (j : model.Item) → ends_with_job (is ++ (j ∷ [])) ≡ is_given (model.job_in j)
 unfolding ends_with_job
 ends_snoc [] j = refl
 ends_snoc (i ∷ []) j = refl
@@ -40,36 +40,36 @@ last_snoc d (i ∷ is) j = last_snoc (job_or d (model.job_in i)) is j
 
 -- of one job the last is the first
 last_none : (d : model.Job) (is : List model.Item) → length (filter_map model.job_in is) ≡ 0 → last_job d is ≡ d
-unfolding last_job filter_map consIf
+unfolding last_job filter_map cons_if
 last_none d [] e = refl
 last_none d (i ∷ is) e = go (model.job_in i) e (λ f. last_none d is f)
   where
-    go : (o : Option model.Job) → length (consIf o (filter_map model.job_in is)) ≡ 0
+    go : (o : Option model.Job) → length (cons_if o (filter_map model.job_in is)) ≡ 0
         → (length (filter_map model.job_in is) ≡ 0 → last_job d is ≡ d) → last_job (job_or d o) is ≡ d
     go none e rest = rest e
     go (some j) e rest = absurd (omega arith)
 
 pub last_one : (d c : model.Job) (is : List model.Item) → length (filter_map model.job_in is) ≡ 1
     → last_job d is ≡ head_d (filter_map model.job_in is) c
-unfolding last_job filter_map consIf head_d
+unfolding last_job filter_map cons_if head_d
 last_one d c [] e = absurd (omega arith)
 last_one d c (i ∷ is) e = go (model.job_in i) e (last_one d c is) (λ j. last_none j is)
   where
-    go : (o : Option model.Job) → length (consIf o (filter_map model.job_in is)) ≡ 1
+    go : (o : Option model.Job) → length (cons_if o (filter_map model.job_in is)) ≡ 1
         → (length (filter_map model.job_in is) ≡ 1 → last_job d is ≡ head_d (filter_map model.job_in is) c)
         → ((j : model.Job) → length (filter_map model.job_in is) ≡ 0 → last_job j is ≡ j)
-        → last_job (job_or d o) is ≡ head_d (consIf o (filter_map model.job_in is)) c
+        → last_job (job_or d o) is ≡ head_d (cons_if o (filter_map model.job_in is)) c
     go none e rest alone = rest e
     go (some j) e rest alone = alone j (omega arith)
 
 -- where the first item is a head, it states the size
 pub opening_size : (is : List model.Item) → wrong_head is ≡ false → opening is ≡ (stated_by is).size
-unfolding opening stated_by wrong_head begins_with_head filter_map consIf head_d isGiven
+unfolding opening stated_by wrong_head begins_with_head filter_map cons_if head_d is_given
 opening_size [] e = absurd (true≢false e)
 opening_size (i ∷ is) e = go (model.size_in i) e
   where
-    go : (o : Option model.Size) → (not (isGiven o) || ltb 1 (length (consIf o (filter_map model.size_in is)))) ≡ false
-        → size_or o ≡ head_d (consIf o (filter_map model.size_in is)) no_size
+    go : (o : Option model.Size) → (not (is_given o) || ltb 1 (length (cons_if o (filter_map model.size_in is)))) ≡ false
+        → size_or o ≡ head_d (cons_if o (filter_map model.size_in is)) no_size
     go none e = absurd (true≢false e)
     go (some z) e = refl
 
@@ -98,24 +98,24 @@ opening_snoc (i ∷ is) j = rw (ne_eqb (suc (length is)) 0 (λ z. omega arith)) 
 
 -- of items, that one is stray is that there is none at the head or a second one
 some-head : (is : List model.Item) → any is_head is ≡ ltb 1 (suc (length (filter_map model.size_in is)))
-unfolding any filter_map consIf isGiven
+unfolding any filter_map cons_if is_given
 some-head [] = refl
 some-head (i ∷ is) = go (model.size_in i) (some-head is)
   where
     go : (o : Option model.Size) → any is_head is ≡ ltb 1 (suc (length (filter_map model.size_in is)))
-        → (isGiven o || any is_head is) ≡ ltb 1 (suc (length (consIf o (filter_map model.size_in is))))
+        → (is_given o || any is_head is) ≡ ltb 1 (suc (length (cons_if o (filter_map model.size_in is))))
     go none e = e
     go (some z) e = sym (lt-ltb 1 (suc (suc (length (filter_map model.size_in is)))) (omega arith))
 
 pub stray-head : (i : model.Item) (is : List model.Item) → stray (i ∷ is) ≡ wrong_head (i ∷ is)
-unfolding stray wrong_head begins_with_head filter_map consIf isGiven
+unfolding stray wrong_head begins_with_head filter_map cons_if is_given
 stray-head i is = go (model.size_in i) (some-head is)
   where
     heads : Bool
     heads = any is_head is
 
     go : (o : Option model.Size) → heads ≡ ltb 1 (suc (length (filter_map model.size_in is)))
-        → (not (isGiven o) || heads) ≡ (not (isGiven o) || ltb 1 (length (consIf o (filter_map model.size_in is))))
+        → (not (is_given o) || heads) ≡ (not (is_given o) || ltb 1 (length (cons_if o (filter_map model.size_in is))))
     go none e = refl
     go (some z) e = e
 
@@ -161,14 +161,14 @@ twice_snoc : (is : List model.Item) (j : model.Item)
     → repeats (places_in (filter_map model.estimate_in (is ++ (j ∷ []))))
     ≡ (repeats (places_in (filter_map model.estimate_in is))
     || any (λ (e : model.PlaceValue). member e.place (places_in (filter_map model.estimate_in is))) (filter_map model.estimate_in (j ∷ [])))
-unfolding filter_map consIf any
+unfolding filter_map cons_if any
 twice_snoc is j = rw (filter_map_append model.estimate_in is (j ∷ [])) (go (model.estimate_in j))
   where
     es : List model.PlaceValue
     es = filter_map model.estimate_in is
 
-    go : (o : Option model.PlaceValue) → repeats (places_in (es ++ consIf o []))
-        ≡ (repeats (places_in es) || any (λ (e : model.PlaceValue). member e.place (places_in es)) (consIf o []))
+    go : (o : Option model.PlaceValue) → repeats (places_in (es ++ cons_if o []))
+        ≡ (repeats (places_in es) || any (λ (e : model.PlaceValue). member e.place (places_in es)) (cons_if o []))
     go none = rw (append-nil es) (sym (or-false (repeats (places_in es))))
     go (some e) =
         let place = e.place in
@@ -179,11 +179,11 @@ second_snoc : (is : List model.Item) (j : model.Item)
     → ltb 1 (length (filter_map model.default_in (is ++ (j ∷ []))))
     ≡ (ltb 1 (length (filter_map model.default_in is))
     || any (λ (x : ℕ). not (eqb (length (filter_map model.default_in is)) 0)) (filter_map model.default_in (j ∷ [])))
-unfolding filter_map consIf any
+unfolding filter_map cons_if any
 second_snoc is j = rw (filter_map_append model.default_in is (j ∷ [])) (go (filter_map model.default_in is) (model.default_in j))
   where
     go : (xs : List ℕ) (o : Option ℕ)
-        → ltb 1 (length (xs ++ consIf o [])) ≡ (ltb 1 (length xs) || any (λ (x : ℕ). not (eqb (length xs) 0)) (consIf o []))
+        → ltb 1 (length (xs ++ cons_if o [])) ≡ (ltb 1 (length xs) || any (λ (x : ℕ). not (eqb (length xs) 0)) (cons_if o []))
     go xs none = rw (append-nil xs) (sym (or-false (ltb 1 (length xs))))
     go [] (some y) = refl
     go (x ∷ []) (some y) = refl
@@ -240,7 +240,7 @@ module _ (input : List ℕ) (n : ℕ) (places : List ℕ) (earlier again : Bool)
       → number_or no_number (own (is_other i) (is_misfit i) first n places earlier (meant input i)) ≡ given first n again i
   unfolding number_or own stray_at is_other is_misfit meant given placed stated_by outside_map free_arc is_free
       large_estimate wrong_measure mismeasured
-      filter_map consIf any isGiven model.size_in model.lane_in model.estimate_in model.default_in model.wait_in model.job_in
+      filter_map cons_if any is_given model.size_in model.lane_in model.estimate_in model.default_in model.wait_in model.job_in
   own_given true (Head z) h = refl
   own_given false (Head z) h = refl
   own_given true (Lane l) h = refl

@@ -19,7 +19,7 @@ use Rattle.map.specs.declared.record.Item.{Item}
 use Rattle.map.specs.declared.record.Item.TheVariants.{Head, Lane, Measured, Estimate, Wait, Factors, Default, Job, Misfit, Other}
 use Rattle.map.specs.Items.{job_of, meant, LiesIn, Says}
 use Rattle.model.specs.Items as model
-use Rattle.model.specs.Lists.{isGiven, consIf, filter_map}
+use Rattle.model.specs.Lists.{is_given, cons_if, filter_map}
 
 pub either : {A : Type 0} (f : Survey → A) (t : Bool) (a b : Survey) (x : A) → f a ≡ x → f b ≡ x → f (cond t a b) ≡ x
 either f true a b x e g = e
@@ -55,14 +55,14 @@ pub record NotedOne (input : List ℕ) (again : Bool) (s : Survey) (first : Bool
         defaults = count_or s.defaults (model.default_in said);
         default = default_or s.defaults s.default (model.default_in said);
         jobs = count_or s.jobs (model.job_in said);
-        job_last = isGiven (model.job_in said);
+        job_last = is_given (model.job_in said);
         job = t.job;
       }
   pub job : job_of input t.job ≡ job_or (job_of input s.job) (model.job_in (meant input i))
 
 module _ (input : List ℕ) (again : Bool) (s : Survey) where
   pub noted_one : (i : Item) → NotedOne input again s (eqb s.records 0) i (noted again s i)
-  unfolding noted given with_head with_lane with_wait with_factors with_default with_job meant isGiven
+  unfolding noted given with_head with_lane with_wait with_factors with_default with_job meant is_given
       model.size_in model.lane_in model.wait_in model.factors_in model.default_in model.job_in
   noted_one (Head z) = go (eqb s.records 0)
     where
@@ -88,7 +88,7 @@ module _ (input : List ℕ) (again : Bool) (s : Survey) where
   pub noted_factors : (tables : List (List ℕ)) → s.tables ≡ length tables → FirstInForce input tables s.factors_at → (r : declared.Record.Record)
       → LiesIn input r → 0 < r.start → (i : Item) → Says input r i
       → FirstInForce input (tables ++ filter_map model.factors_in (meant input i ∷ [])) (noted again s i).factors_at
-  unfolding noted with_head with_lane with_wait with_factors with_default with_job meant filter_map consIf model.factors_in
+  unfolding noted with_head with_lane with_wait with_factors with_default with_job meant filter_map cons_if model.factors_in
   noted_factors tables all now r lies behind (Head z) says =
       let kept : (noted again s (Head z)).factors_at ≡ s.factors_at = either (λ t. t.factors_at) (eqb s.records 0) _ _ _ refl refl in
       rw (append-nil tables, kept) now

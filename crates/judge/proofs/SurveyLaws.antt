@@ -26,7 +26,7 @@ use Rattle.map.specs.Items.{is_misfit, meant, LiesIn, Says}
 use Rattle.model.specs.Framing.{Record}
 use Rattle.model.specs.Items as model
 use Rattle.model.specs.Limits.{max_places}
-use Rattle.model.specs.Lists.{any, isGiven, consIf, filter_map, repeats}
+use Rattle.model.specs.Lists.{any, is_given, cons_if, filter_map, repeats}
 use Rattle.model.specs.Refusals.{Row, places_in, unknown_kind, wrong_length, outside_map, free_arc, large_estimate, two_estimates, wrong_measure, map_rows}
 use Rattle.model.specs.Stated.{stated_by}
 
@@ -46,11 +46,11 @@ nothing_meant input Misfit e = refl
 nothing_meant input Other e = absurd (false≢true e)
 
 -- a body has a wrong length only where its kind has one
-misfit_known : (r : Record) → model.misfits r ≡ true → isGiven (model.body_length (model.item_of r)) ≡ true
-unfolding model.misfits model.other_than isGiven
+misfit_known : (r : Record) → model.misfits r ≡ true → is_given (model.body_length (model.item_of r)) ≡ true
+unfolding model.misfits model.other_than is_given
 misfit_known r e = go (model.body_length (model.item_of r)) e
   where
-    go : (o : Option ℕ) → model.other_than o (length r.body) ≡ true → isGiven o ≡ true
+    go : (o : Option ℕ) → model.other_than o (length r.body) ≡ true → is_given o ≡ true
     go none e = absurd (false≢true e)
     go (some n) e = refl
 
@@ -63,15 +63,15 @@ module _ (input : List ℕ) (r : declared.Record.Record) (i : Item) (says : Says
       go true e = rw (says.misfit, e) (sym (nothing_meant input i e))
       go false e = rw (says.misfit, e) (says.item e)
 
-  unknown_is : not (isGiven (model.body_length (model.item_of (record_in input r)))) ≡ is_other i
-  unfolding is_misfit is_other meant model.body_length isGiven
+  unknown_is : not (is_given (model.body_length (model.item_of (record_in input r)))) ≡ is_other i
+  unfolding is_misfit is_other meant model.body_length is_given
   unknown_is = go i says.misfit says.item
     where
       whole : Record
       whole = record_in input r
 
       go : (i : Item) → model.misfits whole ≡ is_misfit i → (is_misfit i ≡ false → model.item_of whole ≡ meant input i)
-          → not (isGiven (model.body_length (model.item_of whole))) ≡ is_other i
+          → not (is_given (model.body_length (model.item_of whole))) ≡ is_other i
       go (Head z) e f = rw (f refl)
       go (Lane l) e f = rw (f refl)
       go (Measured l) e f = rw (f refl)
@@ -121,7 +121,7 @@ module _ (input : List ℕ) (rs : List Record) (m : List ℕ) (s : Survey) (note
   noted_marks : (again : Bool) (i : Item) (v : ℕ)
       → get_or (marks_by s.places m i) v 0
       ≡ cond (ltb v (noted again s i).places) (first_mark mark_of (es ++ filter_map model.estimate_in (meant input i ∷ [])) v) 0
-  unfolding marks_by noted with_head with_lane with_wait with_factors with_default with_job meant filter_map consIf model.estimate_in said first_mark
+  unfolding marks_by noted with_head with_lane with_wait with_factors with_default with_job meant filter_map cons_if model.estimate_in said first_mark
   noted_marks again (Head z) v = rw (append-nil es) (go (eqb s.records 0) refl)
     where
       go : (t : Bool) → eqb s.records 0 ≡ t
@@ -218,12 +218,12 @@ module _ (input : List ℕ) (rs : List Record) (m : List ℕ) (s : Survey) (note
   -- a count with one item more
   counts : {A : Type 0} (pick : model.Item → Option A) {n : ℕ} → n ≡ length (filter_map pick (said rs))
       → count_or n (pick (meant input i)) ≡ length (filter_map pick (said more))
-  unfolding filter_map consIf
+  unfolding filter_map cons_if
   counts {A} pick {n} all =
       rw (said_more, filter_map_append pick (said rs) (meant input i ∷ []), length-append (filter_map pick (said rs)) _, ← all)
       (go (pick (meant input i)))
     where
-      go : (o : Option A) → count_or n o ≡ n + length (consIf o [])
+      go : (o : Option A) → count_or n o ≡ n + length (cons_if o [])
       go none = omega arith
       go (some x) = omega arith
 
@@ -235,12 +235,12 @@ module _ (input : List ℕ) (rs : List Record) (m : List ℕ) (s : Survey) (note
 
   -- the first default stays in force
   default_more : default_or s.defaults s.default (model.default_in (meant input i)) ≡ head_d (filter_map model.default_in (said more)) 0
-  unfolding filter_map consIf head_d
+  unfolding filter_map cons_if head_d
   default_more =
       rw (said_more, filter_map_append, notes.defaults, notes.default)
       (go (filter_map model.default_in (said rs)) (model.default_in (meant input i)))
     where
-      go : (xs : List ℕ) (o : Option ℕ) → default_or (length xs) (head_d xs 0) o ≡ head_d (xs ++ consIf o []) 0
+      go : (xs : List ℕ) (o : Option ℕ) → default_or (length xs) (head_d xs 0) o ≡ head_d (xs ++ cons_if o []) 0
       go xs none = rw (append-nil xs)
       go [] (some x) = refl
       go (y ∷ ys) (some x) = rw (ne_eqb (suc (length ys)) 0 λ z. omega arith)

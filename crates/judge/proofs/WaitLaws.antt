@@ -14,7 +14,7 @@ use denote.Enum.Declared.{tag_of}
 use Rattle.model.specs.Framing.{frame}
 use Rattle.model.specs.Items.{Lane, PlaceValue, Item, head, lane, estimate, job, wait, own_factors, default_estimate, other, items, lane_in, wait_in}
 use Rattle.model.specs.Limits.{max_places, max_cost}
-use Rattle.model.specs.Lists.{any, consIf, filter_map, member, repeats}
+use Rattle.model.specs.Lists.{any, cons_if, filter_map, member, repeats}
 use Rattle.model.specs.Refusals.{places_in, wrong_wait}
 use Rattle.model.specs.Stated.{Stated, stated_by, stated, stated_in, lookup, cost_under, lane_cost, wait_at, arc_of}
 use Rattle.model.proofs.Lists.{filter_map_member}
@@ -64,7 +64,7 @@ module _ {input : List ℕ} (fits : Fitting input) {i : Item} (in_all : Memᴰ i
 module _ {s : Stated} {is : List Item} {noted : List ℕ} {twice : Bool} where
   step_wait : (w : PlaceValue) → w.place < max_places → Noting s (wait w ∷ is) noted twice
       → Noting s is (noted_by (wait w) noted) (twice || note_again (wait w) noted)
-  unfolding noted_by note_again filter_map consIf wait_in
+  unfolding noted_by note_again filter_map cons_if wait_in
   step_wait w inside now =
       let place = w.place in
       let done = now.done in
@@ -82,7 +82,7 @@ module _ {s : Stated} {is : List Item} {noted : List ℕ} {twice : Bool} where
       }
 
   step_none : {i : Item} → wait_in i ≡ none → Noting s (i ∷ is) noted twice → Noting s is noted (twice || false)
-  unfolding filter_map consIf
+  unfolding filter_map cons_if
   step_none no-wait now =
       rw (or-false twice)
       (record { done = now.done; split = rw no-wait at now.split; room = now.room; notes = now.notes; repeated = now.repeated })
@@ -186,7 +186,7 @@ module _ {factors input noted : List ℕ} (can : Weighable factors input noted) 
 
   -- one item more is weighed
   one_weighed : (is : List Item) (dear : Bool) (i : Item) → Weighing st (i ∷ is) dear → Weighing st is (dear || too_dear factors noted i)
-  unfolding filter_map consIf lane_in any too_dear
+  unfolding filter_map cons_if lane_in any too_dear
   one_weighed is dear (head z) now = rw (or-false dear) now
   one_weighed is dear (lane l) now = rw (dear_same l, or_assoc dear _ _) now
   one_weighed is dear (estimate e) now = rw (or-false dear) now

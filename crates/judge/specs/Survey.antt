@@ -12,7 +12,7 @@ use Rattle.map.specs.Items.{job_of, InForce}
 use Rattle.model.specs.Framing.{Record, frame}
 use Rattle.model.specs.Items as model
 use Rattle.model.specs.Limits.{max_places, max_estimate, max_length, max_class}
-use Rattle.model.specs.Lists.{any, isGiven, filter_map}
+use Rattle.model.specs.Lists.{any, is_given, filter_map}
 use Rattle.model.specs.Refusals.{Row, row, unknown_kind, wrong_length, ends_with_job, form_rows, map_rows, first_that_holds}
 use Rattle.model.specs.Stated.{Stated, no_size, no_job, fixed_factors, stated_by, stated_in, lookup, default}
 
@@ -281,7 +281,7 @@ opening [] = no_size
 opening (i ∷ is) = size_or (model.size_in i)
 
 abbrev pub is_head : model.Item → Bool
-is_head i = isGiven (model.size_in i)
+is_head i = is_given (model.size_in i)
 
 -- a first item that is no head, or a head that is not first
 unfoldable pub stray : List model.Item → Bool

@@ -15,7 +15,7 @@ use Rattle.model.specs.Items.{Charge, flat, measured, Lane}
 use Rattle.model.specs.Stated.{Stated, lookup, default, estimate_at, wait_at}
 use Rattle.model.proofs.Lists.{both, filter-member, filter_all}
 use Rattle.load.specs.Load.{Fit}
-use Rattle.sort.specs.Sorting.{sortBy, one_if}
+use Rattle.sort.specs.Sorting.{sort_by, one_if}
 use Rattle.sort.proofs.SortLaws.{filter_cons, sort_filter, sort_member}
 use Rattle.sort.proofs.SortedNumbers.{same_sorts}
 use Rattle.map_writer.specs.Order.{no_later}
@@ -111,18 +111,18 @@ filter-keys f p (l ∷ lanes) =
 -- lanes with as many copies of each have one order
 pub copies_sort : (n : ℕ) (f : List ℕ) (ls ms : List Lane) → n ≤ max_places
     → ((l : Lane) → Memᴰ l ls → Fit n f l) → ((l : Lane) → Memᴰ l ms → Fit n f l) → ((l : Lane) → copies l ls ≡ copies l ms)
-    → sortBy (no_later f) ls ≡ sortBy (no_later f) ms
+    → sort_by (no_later f) ls ≡ sort_by (no_later f) ms
 copies_sort n f ls ms few fits fits' same = sym (back ls fits) ∙ ap (map lane_in) keys ∙ back ms fits'
   where
     counts : (p : ℕ → Bool) → length (filter p (map (key_of f) ls)) ≡ length (filter p (map (key_of f) ms))
     counts p = filter-keys f p ls ∙ copies_count ls ms same (λ l. p (key_of f l)) ∙ sym (filter-keys f p ms)
 
-    keys : map (key_of f) (sortBy (no_later f) ls) ≡ map (key_of f) (sortBy (no_later f) ms)
+    keys : map (key_of f) (sort_by (no_later f) ls) ≡ map (key_of f) (sort_by (no_later f) ms)
     keys = sorted_keys n f ls few fits ∙ same_sorts (map (key_of f) ls) (map (key_of f) ms) counts ∙ sym (sorted_keys n f ms few fits')
 
     back : (lanes : List Lane) → ((l : Lane) → Memᴰ l lanes → Fit n f l)
-        → map lane_in (map (key_of f) (sortBy (no_later f) lanes)) ≡ sortBy (no_later f) lanes
-    back lanes fits = keys_back n f (sortBy (no_later f) lanes) few (λ l i. fits l ((sort_member (no_later f) lanes l).0 i))
+        → map lane_in (map (key_of f) (sort_by (no_later f) lanes)) ≡ sort_by (no_later f) lanes
+    back lanes fits = keys_back n f (sort_by (no_later f) lanes) few (λ l i. fits l ((sort_member (no_later f) lanes l).0 i))
 
 -- ---- agreement
 pub agree_back : (s t : Stated) → Agree s t → Agree t s
@@ -163,7 +163,7 @@ canonical_agrees s inside =
     }
 
 -- what a canonical form depends on
-canonical_same : (s t : Stated) → s.size ≡ t.size → sortBy (no_later s.factors) s.lanes ≡ sortBy (no_later t.factors) t.lanes
+canonical_same : (s t : Stated) → s.size ≡ t.size → sort_by (no_later s.factors) s.lanes ≡ sort_by (no_later t.factors) t.lanes
     → s.factors ≡ t.factors → s.growth ≡ t.growth → s.job ≡ t.job → default s ≡ default t
     → ((v : ℕ) → v < s.size.places → estimate_at s v ≡ estimate_at t v) → ((v : ℕ) → wait_at s v ≡ wait_at t v) → canonical s ≡ canonical t
 unfolding canonical wait_at
@@ -199,7 +199,7 @@ agree_canonical s t growth arcs arcs' few fits fits' a = canonical_same s t size
     size : s.size ≡ t.size
     size i = record { places = a.places i; arcs = (arcs ∙ lengths ∙ sym arcs') i }
 
-    lanes : sortBy (no_later s.factors) s.lanes ≡ sortBy (no_later t.factors) t.lanes
+    lanes : sort_by (no_later s.factors) s.lanes ≡ sort_by (no_later t.factors) t.lanes
     lanes =
         copies_sort s.size.places s.factors s.lanes t.lanes few fits (λ l i. rw (a.places, factors) (fits' l i)) a.lanes
-        ∙ ap (λ (f : List ℕ). sortBy (no_later f) t.lanes) factors
+        ∙ ap (λ (f : List ℕ). sort_by (no_later f) t.lanes) factors

@@ -18,7 +18,7 @@ use Rattle.model.proofs.Tests.{any_none, or_none}
 use Rattle.model.proofs.Charges.{length_below, class_below}
 use Rattle.model.proofs.Acceptance.{small_estimate, small_default}
 use Rattle.model.proofs.Lookups.{lookup_below, lookup_absent}
-use Rattle.sort.specs.Sorting.{sortBy}
+use Rattle.sort.specs.Sorting.{sort_by}
 use Rattle.sort.proofs.SortLaws.{sort_member, sort_length}
 use Rattle.map_writer.specs.Order.{no_later}
 use Rattle.map_writer.specs.Canonical.{others_by_place, own_estimates, some_default, canonical}
@@ -116,7 +116,7 @@ module _ (s : Stated) (p : Passing s) where
   sorted_none : (f : Lane → Bool) → any f s.lanes ≡ false → any f (canonical s).lanes ≡ false
   unfolding canonical
   sorted_none f h =
-      any_none f (sortBy (no_later s.factors) s.lanes)
+      any_none f (sort_by (no_later s.factors) s.lanes)
       λ l i. any_false f s.lanes h l ((sort_member (no_later s.factors) s.lanes l).0 i)
 
   inside_map : outside_map (canonical s) ≡ false

@@ -14,7 +14,7 @@ use Rattle.model.specs.Refusals.{mismeasured}
 use Rattle.model.proofs.Charges.{length_below, class_below}
 use Rattle.load.specs.Load.{Fit}
 use Rattle.sort.specs.Keys.{word_end}
-use Rattle.sort.specs.Sorting.{sortBy}
+use Rattle.sort.specs.Sorting.{sort_by}
 use Rattle.sort.proofs.SortLaws.{sort_map}
 use Rattle.map_writer.specs.Order.{kind_fields, order_fields, no_greater, no_later}
 use Rattle.lane_rows.specs.Keys.{ends_word, measure_bits, charge_word, key_of, charge_in, lane_in}
@@ -112,6 +112,6 @@ key_order n f l m few fit fit' =
     kinds_order l.charge m.charge first (key_of f l) (key_of f m) fit.measure fit'.measure (omega arith) (omega arith)
 
 pub sorted_keys : (n : ℕ) (f : List ℕ) (lanes : List Lane) → n ≤ max_places → ((l : Lane) → Memᴰ l lanes → Fit n f l)
-    → map (key_of f) (sortBy (no_later f) lanes) ≡ sortBy leb (map (key_of f) lanes)
+    → map (key_of f) (sort_by (no_later f) lanes) ≡ sort_by leb (map (key_of f) lanes)
 sorted_keys n f lanes few fits =
     sort_map (key_of f) (no_later f) leb lanes (λ l m i j. key_order n f l m few (fits l i) (fits m j))

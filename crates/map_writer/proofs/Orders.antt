@@ -18,7 +18,7 @@ use Rattle.load.specs.Load.{lanes_from, count_from, begins, at_goals}
 use Rattle.load.specs.Loaded.{Prepared}
 use Rattle.load.proofs.Sums.{begins_within}
 use Rattle.load.proofs.Known.{Known, few_places_lem, lane_fits, sized}
-use Rattle.sort.specs.Sorting.{sortBy}
+use Rattle.sort.specs.Sorting.{sort_by}
 use Rattle.sort.proofs.Keys.{keys_length}
 use Rattle.sort.proofs.SortLaws.{sort_length}
 use Rattle.map_writer.specs.Order.{no_later}
@@ -82,7 +82,7 @@ module _ (input : List ℕ) (j : Job) (w₀ : List ℕ) (facts : Known input j (
       rows_are (suc v) l =
           let row : row_keys n w₂ v ≡ map (key_of s.factors) (lanes_from v s.lanes) =
           rw (row_start_lem v (omega arith), row_end_lem v (omega arith)) (placed.rows v (omega arith)) in
-          ap₂ {C = List ℕ} ◌++◌ (rows_are v (omega arith)) (ap (sortBy leb) row)
+          ap₂ {C = List ℕ} ◌++◌ (rows_are v (omega arith)) (ap (sort_by leb) row)
 
       in_order : sorted_below n w₂ n ≡ map (key_of s.factors) (canonical s).lanes
       unfolding canonical

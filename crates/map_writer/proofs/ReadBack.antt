@@ -8,7 +8,7 @@ use native.Mathlib.Omega.{arith}
 use lib.Dec.{eqb}
 use lib.ListN.{length, get_or}
 use borrow.Author.Tests.{eq-eqb}
-use Rattle.model.specs.Lists.{any, filter_map, consIf, same_numbers}
+use Rattle.model.specs.Lists.{any, filter_map, cons_if, same_numbers}
 use Rattle.model.specs.Bytes.{u16, u32, u16s, put16, put32, put16s}
 use Rattle.model.specs.Framing.{Record, Framed}
 use Rattle.model.specs.Limits.{max_estimate}
@@ -124,13 +124,13 @@ items_said t ok =
 -- items of which a choice takes none, or takes what each is of
 module _ {A B : Type 0} (g : A → Item) (f : Item → Option B) (none_of : (x : A) → f (g x) ≡ none) where
   pub none_taken : (xs : List A) (is : List Item) → filter_map f (map g xs ++ is) ≡ filter_map f is
-  unfolding filter_map consIf
+  unfolding filter_map cons_if
   none_taken [] is = refl
   none_taken (x ∷ xs) is = rw (none_of x) (none_taken xs is)
 
 module _ {A : Type 0} (g : A → Item) (f : Item → Option A) (Some-of : (x : A) → f (g x) ≡ some x) where
   pub all_taken : (xs : List A) (is : List Item) → filter_map f (map g xs ++ is) ≡ xs ++ filter_map f is
-  unfolding filter_map consIf
+  unfolding filter_map cons_if
   all_taken [] is = refl
   all_taken (x ∷ xs) is = rw (Some-of x) (ap (λ (ys : List A). x ∷ ys) (all_taken xs is))
 
@@ -140,7 +140,7 @@ unfolding tables_of
 table_back fs = unless_first fs fixed_factors (same_numbers fs fixed_factors) (same_numbers_lem fs fixed_factors).0
 
 items_stated : (t : Stated) → Storable t → stated_by (items_of t) ≡ t
-unfolding items_of stated_by filter_map consIf size_in lane_in estimate_in job_in wait_in factors_in default_in head_d
+unfolding items_of stated_by filter_map cons_if size_in lane_in estimate_in job_in wait_in factors_in default_in head_d
 items_stated t ok =
     let tables : List (List ℕ) = tables_of t.factors in
     let last : List Item = job t.job ∷ [] in

@@ -15,7 +15,7 @@ use Rattle.model.specs.Items.{Lane}
 use Rattle.model.proofs.Lists.{filter-append, filter-member}
 use Rattle.load.specs.Load.{Fit, lanes_from}
 use Rattle.sort.specs.Keys.{word_end}
-use Rattle.sort.specs.Sorting.{sortBy, one_if}
+use Rattle.sort.specs.Sorting.{sort_by, one_if}
 use Rattle.sort.proofs.SortLaws.{filter_cons}
 use Rattle.sort.proofs.SortedNumbers.{same_sorts, sort_append}
 use Rattle.map_writer.specs.Order.{no_later}
@@ -29,7 +29,7 @@ lane_keys f lanes v = map (key_of f) (lanes_from v lanes)
 -- the sorted keys of the rows of places below v, one row after another
 unfoldable pub sorted_rows : List ℕ → List Lane → ℕ → List ℕ
 sorted_rows f lanes zero = []
-sorted_rows f lanes (suc v) = sorted_rows f lanes v ++ sortBy leb (lane_keys f lanes v)
+sorted_rows f lanes (suc v) = sorted_rows f lanes v ++ sort_by leb (lane_keys f lanes v)
 
 -- the same, each row as it is
 unfoldable rows_below : List ℕ → List Lane → ℕ → List ℕ
@@ -53,14 +53,14 @@ module _ (n : ℕ) (f : List ℕ) (lanes : List Lane) (few : n ≤ max_places) (
   rows_place (suc v) k i =
       ⊎_elim (λ m. omega (arith, rows_place v k m)) (λ m. omega (arith, row_place v k m)) (Memᴰ.append_cases (rows_below f lanes v) i)
 
-  rows_sort : (v : ℕ) → sorted_rows f lanes v ≡ sortBy leb (rows_below f lanes v)
-  unfolding sorted_rows rows_below sortBy
+  rows_sort : (v : ℕ) → sorted_rows f lanes v ≡ sort_by leb (rows_below f lanes v)
+  unfolding sorted_rows rows_below sort_by
   rows_sort zero = refl
   rows_sort (suc v) =
       let rest = rows_sort v in
       let apart = sort_append (rows_below f lanes v) (lane_keys f lanes v)
       (λ j k i i'. omega (arith, rows_place v j i, row_place v k i')) in
-      ap (λ (ks : List ℕ). ks ++ sortBy leb (lane_keys f lanes v)) rest ∙ sym apart
+      ap (λ (ks : List ℕ). ks ++ sort_by leb (lane_keys f lanes v)) rest ∙ sym apart
 
 -- ---- every key is in one row
 filter_both : (p : ℕ → Bool) (xs ys : List ℕ) → length (filter p (xs ++ ys)) ≡ length (filter p xs) + length (filter p ys)
@@ -129,7 +129,7 @@ module _ (f : List ℕ) (p : ℕ → Bool) where
       omega (arith, first, rest, filter_cons p (key_of f l) (map (key_of f) lanes))
 
 pub rows_sorted : (n : ℕ) (f : List ℕ) (lanes : List Lane) → n ≤ max_places → ((l : Lane) → Memᴰ l lanes → Fit n f l)
-    → sorted_rows f lanes n ≡ map (key_of f) (sortBy (no_later f) lanes)
+    → sorted_rows f lanes n ≡ map (key_of f) (sort_by (no_later f) lanes)
 rows_sorted n f lanes few fits =
     rows_sort n f lanes few fits n
     ∙ same_sorts (rows_below f lanes n) (map (key_of f) lanes) (λ p. rows_pass f p n lanes (λ l i. (fits l i).from))

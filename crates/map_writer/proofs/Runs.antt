@@ -10,7 +10,7 @@ use Rattle.model.specs.Lists.{below, same_numbers}
 use Rattle.model.specs.Stated.{fixed_factors, stated_in}
 use Rattle.model.specs.Jobs.{put_head, put_arc, put_measured, put_estimate, put_wait, put_factors, put_default, put_job, put_charged, put_lane}
 use Rattle.model.proofs.Compute.{compute}
-use Rattle.sort.specs.Sorting.{insert, sortBy}
+use Rattle.sort.specs.Sorting.{insert, sort_by}
 use Rattle.map_writer.specs.Order.{kind_fields, order_fields, no_greater, no_later}
 use Rattle.map_writer.specs.Canonical.{by_place, others_by_place, own_estimates, some_default, canonical, put_stated, write}
 use Rattle.map_writer.specs.Agree.{Agree}
@@ -164,7 +164,7 @@ all (r ∷ rs) = agrees r && all rs
 runs_agree : all runs ≡ true
 unfolding compute lanes in_order job jumbled canonical_form waiting waiting_form mixed mixed_form one_wait
     ones tabled tabled_form one_lane owned defaulted defaulted_form shorter_last shorter_first run runs agrees all
-    below flat_map insert sortBy kind_fields order_fields no_greater no_later by_place others_by_place own_estimates some_default canonical
+    below flat_map insert sort_by kind_fields order_fields no_greater no_later by_place others_by_place own_estimates some_default canonical
     put_charged put_lane put_stated write short_output output_rows write_rows write_refusal written_with write_if write_map
 runs_agree = refl
 

@@ -8,7 +8,7 @@ use native.Mathlib.Omega.{arith}
 use lib.Dec.{ltb, leb, eqb}
 use lib.ListN.{length, take, drop, length-append, length-take, length-drop}
 use borrow.Author.Tests.{leb-true, ltb-false, eqb-true, not-false}
-use Rattle.model.specs.Lists.{any, consIf, filter_map, isGiven, same_numbers}
+use Rattle.model.specs.Lists.{any, cons_if, filter_map, is_given, same_numbers}
 use Rattle.model.specs.Bytes.{put16, put32}
 use Rattle.model.specs.Framing.{Record, stop, push, frame_up_to, frame, put_record}
 use Rattle.model.specs.Items.{Charge, flat, measured, Lane, Job, Item, head, lane, estimate, job, wait, own_factors, default_estimate, other}
@@ -93,9 +93,9 @@ no_other : (n m : ℕ) → not (eqb n m) ≡ false → n ≡ m
 no_other n m e = eqb-true n m (not-false (eqb n m) e)
 
 -- an item whose kind has a length adds it to those of its kind
-item_adds : (i : Item) (n : ℕ) (is : List Item) → isGiven (body_length i) ≡ true → other_than (body_length i) n ≡ false
+item_adds : (i : Item) (n : ℕ) (is : List Item) → is_given (body_length i) ≡ true → other_than (body_length i) n ≡ false
     → kind_bytes (i ∷ is) ≡ 4 + n + kind_bytes is
-unfolding body_length other_than isGiven filter_map consIf size_in lane_in estimate_in job_in wait_in factors_in default_in lane_bytes jobs_bytes
+unfolding body_length other_than is_given filter_map cons_if size_in lane_in estimate_in job_in wait_in factors_in default_in lane_bytes jobs_bytes
 item_adds (head s) n is g e = omega (arith, no_other n head_bytes e)
 item_adds (lane l) n is g e = omega (arith, no_other n (charge_bytes l.charge) e)
 item_adds (estimate x) n is g e = omega (arith, no_other n estimate_bytes e)
@@ -110,14 +110,14 @@ records_kinds : (rs : List Record) → unknown_kind (items rs) ≡ false → wro
 unfolding record_bytes unknown_kind wrong_length items any misfits filter_map lane_bytes jobs_bytes
 records_kinds [] k l = refl
 records_kinds (r ∷ rs) k l =
-    let known = neither (not (isGiven (body_length (item_of r)))) _ k in
+    let known = neither (not (is_given (body_length (item_of r)))) _ k in
     let fits = neither (other_than (body_length (item_of r)) (length r.body)) _ l in
     let rest = records_kinds rs known.1 fits.1 in
     let first = item_adds (item_of r) (length r.body) (items rs) (not-false _ known.0) fits.0 in
     omega (arith, rest, first)
 
 first_head : (is : List Item) → begins_with_head is ≡ true → 1 ≤ length (filter_map size_in is)
-unfolding begins_with_head filter_map consIf isGiven size_in
+unfolding begins_with_head filter_map cons_if is_given size_in
 first_head [] e = absurd (false≢true e)
 first_head (head s ∷ is) e = omega arith
 first_head (lane l ∷ is) e = absurd (false≢true e)

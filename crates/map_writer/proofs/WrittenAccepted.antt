@@ -9,7 +9,7 @@ use native.Mathlib.Omega.{arith}
 use lib.Dec.{ltb}
 use lib.ListN.{length}
 use borrow.Author.Tests.{le-ltb}
-use Rattle.model.specs.Lists.{any, consIf, filter_map, isGiven}
+use Rattle.model.specs.Lists.{any, cons_if, filter_map, is_given}
 use Rattle.model.specs.Bytes.{Bytes, u32}
 use Rattle.model.specs.Framing.{Record, Framed, frame}
 use Rattle.model.specs.Items.{Lane, Job, Item, head, lane, estimate, job, wait, own_factors, default_estimate, other}
@@ -105,14 +105,14 @@ module _ {A : Type 0} (g : A → Item) (f : Item → Bool) (none_of : (x : A) �
   none_passes (x ∷ xs) is others = rw (none_of x) (none_passes xs is others)
 
 -- the last of items is a job where the one put at their end is
-ends_after : (i : Item) (is : List Item) (j : Item) → ends_with_job (i ∷ (is ++ (j ∷ []))) ≡ isGiven (job_in j)
+ends_after : (i : Item) (is : List Item) (j : Item) → ends_with_job (i ∷ (is ++ (j ∷ []))) ≡ is_given (job_in j)
 unfolding ends_with_job
 ends_after i [] j = refl
 ends_after i (k ∷ is) j = ends_after k is j
 
 module _ (t : Stated) where
   known_kinds : unknown_kind (items_of t) ≡ false
-  unfolding unknown_kind items_of body_length isGiven any
+  unfolding unknown_kind items_of body_length is_given any
   known_kinds =
       let defaults = none_passes default_estimate _ (λ x. refl) t.defaults _ refl in
       let tables = none_passes own_factors _ (λ fs. refl) (tables_of t.factors) _ defaults in
@@ -120,7 +120,7 @@ module _ (t : Stated) where
       none_passes lane _ (λ l. refl) t.lanes _ (none_passes estimate _ (λ e. refl) t.estimates _ waits)
 
   right-head : wrong_head (items_of t) ≡ false
-  unfolding wrong_head items_of begins_with_head size_in isGiven filter_map consIf
+  unfolding wrong_head items_of begins_with_head size_in is_given filter_map cons_if
   right-head =
       rw (
         none_taken lane size_in (λ l. refl) t.lanes,
@@ -132,7 +132,7 @@ module _ (t : Stated) where
 
   -- the table is the only one, and keeps the rules
   right_factors : IsTable t.factors → wrong_factors (items_of t) ≡ false
-  unfolding wrong_factors items_of factors_in filter_map consIf
+  unfolding wrong_factors items_of factors_in filter_map cons_if
   right_factors table =
       let tables : List (List ℕ) = tables_of t.factors in
       let kept : any breaks_rules tables ≡ false
@@ -147,7 +147,7 @@ module _ (t : Stated) where
       ) (or_none (ltb 1 (length tables)) (any breaks_rules tables) (le-ltb 1 (length tables) (tables_few t.factors)) kept)
 
   one_job : wrong_job (items_of t) ≡ false
-  unfolding wrong_job items_of job_in isGiven filter_map consIf
+  unfolding wrong_job items_of job_in is_given filter_map cons_if
   one_job =
       let ls : List Item = map lane t.lanes in
       let es : List Item = map estimate t.estimates in

@@ -8,7 +8,7 @@ use Rattle.model.specs.Lists.{filter, member, below}
 use Rattle.model.specs.Items.{PlaceValue}
 use Rattle.model.specs.Stated.{Stated, lookup, default}
 use Rattle.model.specs.Jobs.{put_head, put_estimate, put_wait, put_table, put_default, put_job, put_lane}
-use Rattle.sort.specs.Sorting.{sortBy}
+use Rattle.sort.specs.Sorting.{sort_by}
 use Rattle.map_writer.specs.Order.{no_later}
 
 -- the number of each of n places, d where none is given
@@ -32,7 +32,7 @@ unfoldable pub canonical : Stated → Stated
 canonical s =
     record {
       size = s.size;
-      lanes = sortBy (no_later s.factors) s.lanes;
+      lanes = sort_by (no_later s.factors) s.lanes;
       estimates = others_by_place (default s) s.size.places (own_estimates s);
       defaults = some_default (default s);
       waits = others_by_place 0 s.size.places s.waits;

@@ -92,13 +92,7 @@ pub fn write(input: &[u8], work: &mut [u32], output: &mut [u8]) -> Answer
 }
 
 // The call for a host: the number comes back, and the seven numbers are in the lent words.
-#[unsafe(no_mangle)]
-pub extern "C" fn r3_write_map(
-    input: &[u8],
-    work: &mut [u32],
-    output: &mut [u8],
-    words: &mut [u32],
-) -> u32
+pub fn r3_write_map(input: &[u8], work: &mut [u32], output: &mut [u8], words: &mut [u32]) -> u32
     ensures { WroteFor input.now work.old output.old words.old result
         work.new output.new words.new }
 {

@@ -1,6 +1,6 @@
 -- `unfolding compute` opens all that `route`, `read_sheet` and `host_answer` rest on, for theorems that are proved by computing them.
 use mathlib.Core.List.{head_d, get_last_d}
-use Rattle.model.specs.Lists.{any, filter, isGiven, consIf, filter_map, lesser, leastBy, member, repeats, rises, falls, same_numbers}
+use Rattle.model.specs.Lists.{any, filter, is_given, cons_if, filter_map, lesser, least_by, member, repeats, rises, falls, same_numbers}
 use Rattle.model.specs.Bytes.{u16, u32, u16s, put16, put32, put16s}
 use Rattle.model.specs.Framing.{stop, push, frame_up_to, frame, put_record}
 use Rattle.model.specs.Items.{
@@ -127,7 +127,7 @@ use Rattle.model.specs.Answer.{sheet_of, answer_of, over_front, refused_with, en
 unfoldable pub compute : Unit {0}
 unfolding
     head_d get_last_d
-    any filter isGiven consIf filter_map lesser leastBy member repeats rises falls same_numbers
+    any filter is_given cons_if filter_map lesser least_by member repeats rises falls same_numbers
     u16 u32 u16s put16 put32 put16s
     stop push frame_up_to frame put_record
     head_of lane_of measured_of estimate_of job_of wait_of factors_of default_of item_of charge_bytes body_length other_than misfits items

@@ -8,7 +8,7 @@ use native.Mathlib.Omega.{arith}
 use lib.Dec.{eqb}
 use lib.ListN.{length, length-append}
 use borrow.Author.Tests.{eqb-true, not-false}
-use Rattle.model.specs.Lists.{any, isGiven, consIf, filter_map}
+use Rattle.model.specs.Lists.{any, is_given, cons_if, filter_map}
 use Rattle.model.specs.Framing.{Record, Framed}
 use Rattle.model.specs.Items.{Size, Item, job, Job, item_of, items, body_length, misfits, size_in, lane_in, estimate_in, job_in, wait_in}
 use Rattle.model.specs.Items.{factors_in, default_in}
@@ -50,7 +50,7 @@ module _ (is ls : List Item) (j k : Job) (same : SameJob j k) where
 
   -- of the jobs the first is read
   first_job : SameJob (head_d (filter_map job_in (with j)) no_job) (head_d (filter_map job_in (with k)) no_job)
-  unfolding filter_map consIf job_in head_d
+  unfolding filter_map cons_if job_in head_d
   first_job = rw (filter_map_append job_in is (job j ∷ ls), filter_map_append job_in is (job k ∷ ls)) (go (filter_map job_in is))
     where
       go : (js : List Job) → SameJob (head_d (js ++ (j ∷ filter_map job_in ls)) no_job) (head_d (js ++ (k ∷ filter_map job_in ls)) no_job)
@@ -59,7 +59,7 @@ module _ (is ls : List Item) (j k : Job) (same : SameJob j k) where
 
   -- all else is said by other records
   others : {A : Type 0} (f : Item → Option A) → ((i : Job) → f (job i) ≡ none) → filter_map f (with j) ≡ filter_map f (with k)
-  unfolding filter_map consIf
+  unfolding filter_map cons_if
   others f says = rw (filter_map_append f is (job j ∷ ls), filter_map_append f is (job k ∷ ls), says j, says k) refl
 
   same_stated : SameStated (stated_by (with j)) (stated_by (with k))
@@ -77,7 +77,7 @@ module _ (is ls : List Item) (j k : Job) (same : SameJob j k) where
 
   -- no condition asks for the allowance
   same_kinds : unknown_kind (with j) ≡ unknown_kind (with k)
-  unfolding unknown_kind any body_length isGiven
+  unfolding unknown_kind any body_length is_given
   same_kinds = any_append _ is (job j ∷ ls) ∙ sym (any_append _ is (job k ∷ ls))
 
   same_begin : (is : List Item) → begins_with_head (is ++ (job j ∷ ls)) ≡ begins_with_head (is ++ (job k ∷ ls))
@@ -86,7 +86,7 @@ module _ (is ls : List Item) (j k : Job) (same : SameJob j k) where
   same_begin (i ∷ is) = refl
 
   same_end : (is : List Item) → ends_with_job (is ++ (job j ∷ ls)) ≡ ends_with_job (is ++ (job k ∷ ls))
-  unfolding ends_with_job job_in isGiven
+  unfolding ends_with_job job_in is_given
   same_end [] = last ls
     where
       last : (ls : List Item) → ends_with_job (job j ∷ ls) ≡ ends_with_job (job k ∷ ls)
@@ -104,7 +104,7 @@ module _ (is ls : List Item) (j k : Job) (same : SameJob j k) where
   same_factors = rw (others factors_in (λ i. refl)) refl
 
   same_jobs : wrong_job (with j) ≡ wrong_job (with k)
-  unfolding wrong_job filter_map consIf job_in
+  unfolding wrong_job filter_map cons_if job_in
   same_jobs =
       let first = filter_map_append job_in is (job j ∷ ls) in
       let second = filter_map_append job_in is (job k ∷ ls) in
@@ -181,7 +181,7 @@ one_last_job f words bytes A =
 -- the only job is the one that is read
 pub only_job : (is ls : List Item) (j : Job) → length (filter_map job_in (is ++ (job j ∷ ls))) ≡ 1
     → head_d (filter_map job_in (is ++ (job j ∷ ls))) no_job ≡ j
-unfolding filter_map consIf job_in head_d
+unfolding filter_map cons_if job_in head_d
 only_job is ls j one = rw (filter_map_append job_in is (job j ∷ ls)) (go (filter_map job_in is) (rw (filter_map_append job_in is (job j ∷ ls)) at one))
   where
     go : (js : List Job) → length (js ++ (j ∷ filter_map job_in ls)) ≡ 1 → head_d (js ++ (j ∷ filter_map job_in ls)) no_job ≡ j

@@ -11,7 +11,7 @@ use native.Mathlib.Decide.{ℕ_discrete}
 use lib.Dec.{ltb, eqb}
 use lib.ListN.{length}
 use borrow.Author.Tests.{ltb-true, ltb-false, le-ltb, eqb-true, eq-eqb, ne_eqb}
-use Rattle.model.specs.Lists.{filter, consIf, member}
+use Rattle.model.specs.Lists.{filter, cons_if, member}
 use Rattle.model.specs.Problem.{Problem, IsGoal}
 use Rattle.model.specs.Costs.{Table, cost_at}
 use Rattle.model.specs.Query.{Key, precedes, key_of, keys_from, within, first_goal, length_to}
@@ -127,7 +127,7 @@ unfolding within
 within-length t = keys_from-length 0 t
 
 keys_from_shorter : (u : ℕ) (t : Table) (v : ℕ) → v < length t → cost_at t v ≡ none → length (keys_from u t) < length t
-unfolding keys_from key_of consIf
+unfolding keys_from key_of cons_if
 keys_from_shorter u [] v h e = absurd (omega arith)
 keys_from_shorter u (x ∷ t) zero h e = rw e (omega (arith, keys_from-length (suc u) t))
 keys_from_shorter u (x ∷ t) (suc v) h e =
@@ -144,7 +144,7 @@ within-some t v w = member-length ((key_entry t (key w.cost v)).1 w.is)
 
 keys_from_monotone : (v : ℕ) (t u : Table) → length t ≡ length u → ((i : ℕ) → IsWithin t i → IsWithin u i)
     → length (keys_from v t) ≤ length (keys_from v u)
-unfolding keys_from key_of consIf
+unfolding keys_from key_of cons_if
 keys_from_monotone v [] [] e h = le_refl 0
 keys_from_monotone v [] (y ∷ u) e h = absurd (omega arith)
 keys_from_monotone v (x ∷ t) [] e h = absurd (omega arith)
@@ -157,7 +157,7 @@ keys_from_monotone v (x ∷ t) (y ∷ u) e h = go x y now (keys_from_monotone (s
     later i w = let r = h (suc i) (record { cost = w.cost; is = w.is }) in record { cost = r.cost; is = r.is }
 
     go : (x y : Option ℕ) → ((d : ℕ) → x ≡ some d → (c : ℕ) × (y ≡ some c)) → length (keys_from (suc v) t) ≤ length (keys_from (suc v) u)
-        → length (consIf (key_of v x) (keys_from (suc v) t)) ≤ length (consIf (key_of v y) (keys_from (suc v) u))
+        → length (cons_if (key_of v x) (keys_from (suc v) t)) ≤ length (cons_if (key_of v y) (keys_from (suc v) u))
     go none none f rest = rest
     go none (some c) f rest = omega arith
     go (some d) none f rest = none-some (f d refl).1

@@ -13,7 +13,7 @@ use lib.Dec.{ltb, eqb}
 use lib.ListN.{length, get_or, set, length-append}
 use lib.Seq.{paste, paste-suc}
 use borrow.Author.Tests.{ltb-true, ltb-false, le-ltb, eqb-true, eqb-false, eq-eqb}
-use Rattle.model.specs.Lists.{any, filter, consIf, filter_map, lesser, leastBy, least, member, repeats, same_numbers, below}
+use Rattle.model.specs.Lists.{any, filter, cons_if, filter_map, lesser, least_by, least, member, repeats, same_numbers, below}
 
 pub none-some : {A B : Type 0} {x : A} → ◌≡◌ {A = Option A} none (some x) → B
 none-some e = absurd (none-ne-some _ e)
@@ -57,16 +57,16 @@ cond_member {x = x} {y = y} b ys = (down b, up b)
     up false (inl e) = absurd (false≢true e.1)
     up false (inr i) = i
 
-pub cons_if_member : {A : Type 0} {x : A} (o : Option A) (xs : List A) → Memᴰ x (consIf o xs) ↔ ((o ≡ some x) ⊎ Memᴰ x xs)
-unfolding consIf
+pub cons_if_member : {A : Type 0} {x : A} (o : Option A) (xs : List A) → Memᴰ x (cons_if o xs) ↔ ((o ≡ some x) ⊎ Memᴰ x xs)
+unfolding cons_if
 cons_if_member {A} {x} o xs = (down o, up o)
   where
-    down : (o : Option A) → Memᴰ x (consIf o xs) → (o ≡ some x) ⊎ Memᴰ x xs
+    down : (o : Option A) → Memᴰ x (cons_if o xs) → (o ≡ some x) ⊎ Memᴰ x xs
     down none i = inr i
     down (some y) (Memᴰ.head e) = inl (ap {B = Option A} some (sym e))
     down (some y) (Memᴰ.tail i) = inr i
 
-    up : (o : Option A) → (o ≡ some x) ⊎ Memᴰ x xs → Memᴰ x (consIf o xs)
+    up : (o : Option A) → (o ≡ some x) ⊎ Memᴰ x xs → Memᴰ x (cons_if o xs)
     up none (inl e) = none-some e
     up none (inr i) = i
     up (some y) (inl e) = Memᴰ.head (sym (some-injective _ _ e))
@@ -110,8 +110,8 @@ module _ {A : Type 0} (f : A → Bool) where
       up rest h (Memᴰ.head e) = inl (e, ap f (sym e) ∙ h)
       up rest h (Memᴰ.tail i) = inr (rest (i, h))
 
-pub cons_if_length : {A : Type 0} (o : Option A) (xs : List A) → length (consIf o xs) ≤ length xs + 1
-unfolding consIf
+pub cons_if_length : {A : Type 0} (o : Option A) (xs : List A) → length (cons_if o xs) ≤ length xs + 1
+unfolding cons_if
 cons_if_length none xs = omega arith
 cons_if_length (some x) xs = omega arith
 
@@ -188,32 +188,32 @@ module _ {A B : Type 0} (f : A → Option B) where
 
 -- the least element by an order; nothing is before an element that nothing in the list is before
 module _ {A : Type 0} (before : A → A → Bool) where
-  pub least_by_none : (xs : List A) → leastBy before xs ≡ none → xs ≡ []
-  unfolding leastBy
+  pub least_by_none : (xs : List A) → least_by before xs ≡ none → xs ≡ []
+  unfolding least_by
   least_by_none [] e = refl
   least_by_none (x ∷ xs) e = none-some (sym e)
 
-  pub least_by_member : (xs : List A) (x : A) → leastBy before xs ≡ some x → Memᴰ x xs
-  unfolding leastBy
+  pub least_by_member : (xs : List A) (x : A) → least_by before xs ≡ some x → Memᴰ x xs
+  unfolding least_by
   least_by_member [] x e = none-some e
-  least_by_member (y ∷ ys) x e = go (leastBy before ys) refl (least_by_member ys) (some-injective _ _ e)
+  least_by_member (y ∷ ys) x e = go (least_by before ys) refl (least_by_member ys) (some-injective _ _ e)
     where
       pick : (b : Bool) (z : A) → Memᴰ z ys → cond b z y ≡ x → Memᴰ x (y ∷ ys)
       pick true z i p = Memᴰ.tail (Memᴰ.cast (sym p) i)
       pick false z i p = Memᴰ.head (sym p)
 
-      go : (o : Option A) → leastBy before ys ≡ o → ((z : A) → leastBy before ys ≡ some z → Memᴰ z ys)
+      go : (o : Option A) → least_by before ys ≡ o → ((z : A) → least_by before ys ≡ some z → Memᴰ z ys)
           → lesser before y o ≡ x → Memᴰ x (y ∷ ys)
       go none q rest p = Memᴰ.head (sym p)
       go (some z) q rest p = pick (before z y) z (rest z q) p
 
   pub least_by_least : ((x y z : A) → before x y ≡ false → before y z ≡ false → before x z ≡ false)
       → ((x y : A) → before x y ≡ true → before y x ≡ false) → ((x : A) → before x x ≡ false)
-      → (xs : List A) (x : A) → leastBy before xs ≡ some x → (y : A) → Memᴰ y xs → before y x ≡ false
-  unfolding leastBy
+      → (xs : List A) (x : A) → least_by before xs ≡ some x → (y : A) → Memᴰ y xs → before y x ≡ false
+  unfolding least_by
   least_by_least trans asym irrefl [] x e y i = none-some e
   least_by_least trans asym irrefl (z ∷ zs) x e y i =
-      rw (← some-injective _ _ e) (go (leastBy before zs) refl (least_by_least trans asym irrefl zs) (Memᴰ.cases_cons i))
+      rw (← some-injective _ _ e) (go (least_by before zs) refl (least_by_least trans asym irrefl zs) (Memᴰ.cases_cons i))
     where
       pick : (w : A) (b : Bool) → before w z ≡ b → ((y : A) → Memᴰ y zs → before y w ≡ false)
           → (y ≡ z) ⊎ Memᴰ y zs → before y (cond b w z) ≡ false
@@ -222,8 +222,8 @@ module _ {A : Type 0} (before : A → A → Bool) where
       pick w false q low (inl p) = rw p (irrefl z)
       pick w false q low (inr i) = trans y w z (low y i) q
 
-      go : (o : Option A) → leastBy before zs ≡ o
-          → ((x : A) → leastBy before zs ≡ some x → (y : A) → Memᴰ y zs → before y x ≡ false)
+      go : (o : Option A) → least_by before zs ≡ o
+          → ((x : A) → least_by before zs ≡ some x → (y : A) → Memᴰ y zs → before y x ≡ false)
           → (y ≡ z) ⊎ Memᴰ y zs → before y (lesser before z o) ≡ false
       go none q low (inl p) = rw p (irrefl z)
       go none q low (inr i) = absurd (Memᴰ.not-nil (rw (least_by_none zs q) at i))

@@ -8,7 +8,7 @@ use native.Mathlib.Omega.{arith}
 use lib.Dec.{ltb, leb, eqb}
 use lib.ListN.{length, length-map}
 use borrow.Author.Tests.{le-ltb, lt-leb, eq-eqb, ne_eqb}
-use Rattle.model.specs.Lists.{any, consIf, filter_map, isGiven, repeats, rises}
+use Rattle.model.specs.Lists.{any, cons_if, filter_map, is_given, repeats, rises}
 use Rattle.model.specs.Bytes.{u16, u16s, put16, put32, put16s}
 use Rattle.model.specs.Framing.{Record}
 use Rattle.model.specs.Limits.{max_places, max_arcs, max_cost}
@@ -42,7 +42,7 @@ any_lanes f [] is none others = others
 any_lanes f (a ∷ arcs) is none others = rw (none a) (any_lanes f arcs is none others)
 
 -- the last of an item, lanes and one more item is that one
-lanes_end : (i j : Item) (arcs : List Arc) → ends_with_job (i ∷ (map (λ (a : Arc). lane (flat_lane a)) arcs ++ (j ∷ []))) ≡ isGiven (job_in j)
+lanes_end : (i j : Item) (arcs : List Arc) → ends_with_job (i ∷ (map (λ (a : Arc). lane (flat_lane a)) arcs ++ (j ∷ []))) ≡ is_given (job_in j)
 unfolding ends_with_job
 lanes_end i j [] = refl
 lanes_end i j (a ∷ arcs) = lanes_end _ j arcs
@@ -53,19 +53,19 @@ module _ (arcs : List Arc) (start goal : ℕ) where
   right_lengths = with_arcs_any misfits arcs _ (λ b l. rw l) refl
 
   known_kinds : unknown_kind (plain_items arcs start goal) ≡ false
-  unfolding plain_items unknown_kind body_length isGiven any
+  unfolding plain_items unknown_kind body_length is_given any
   known_kinds = any_lanes _ arcs _ (λ a. refl) refl
 
   right-head : wrong_head (plain_items arcs start goal) ≡ false
-  unfolding plain_items wrong_head begins_with_head size_in isGiven filter_map consIf
+  unfolding plain_items wrong_head begins_with_head size_in is_given filter_map cons_if
   right-head = rw (lanes_give_none size_in (λ a. refl) arcs)
 
   no_wrong_factors : wrong_factors (plain_items arcs start goal) ≡ false
-  unfolding plain_items wrong_factors factors_in filter_map consIf any
+  unfolding plain_items wrong_factors factors_in filter_map cons_if any
   no_wrong_factors = rw (lanes_give_none factors_in (λ a. refl) arcs)
 
   right_job : wrong_job (plain_items arcs start goal) ≡ false
-  unfolding plain_items wrong_job job_in isGiven filter_map consIf
+  unfolding plain_items wrong_job job_in is_given filter_map cons_if
   right_job = rw (lanes_give_none job_in (λ a. refl) arcs, lanes_end _ _ arcs)
 
 -- ---- Conditions on what the records state

@@ -8,7 +8,7 @@ use mathlib.Core.Option.{Option, none}
 use Prim.Native.Nat.{ℕ, ◌+◌, ◌≤◌, ◌<◌}
 use native.Mathlib.Omega.{arith}
 use lib.ListN.{length}
-use Rattle.model.specs.Lists.{filter_map, consIf, member}
+use Rattle.model.specs.Lists.{filter_map, cons_if, member}
 use Rattle.model.specs.Bytes.{Bytes, u16, u32, u16s, put16, put32, put16s}
 use Rattle.model.specs.Framing.{Record, frame, put_record}
 use Rattle.model.specs.Limits.{max_places, max_arcs}
@@ -156,17 +156,17 @@ plain_stated arcs start goal =
 -- a test of items that the lanes do not pass
 module _ {A : Type 0} (f : Item → Option A) (none_of : (a : Arc) → f (said_by a) ≡ none) where
   pub lanes_give_none : (arcs : List Arc) (is : List Item) → filter_map f (map said_by arcs ++ is) ≡ filter_map f is
-  unfolding filter_map consIf
+  unfolding filter_map cons_if
   lanes_give_none [] is = refl
   lanes_give_none (a ∷ arcs) is = rw (none_of a) (lanes_give_none arcs is)
 
 lanes_given : (arcs : List Arc) (is : List Item) → filter_map lane_in (map said_by arcs ++ is) ≡ map flat_lane arcs ++ filter_map lane_in is
-unfolding filter_map consIf lane_in
+unfolding filter_map cons_if lane_in
 lanes_given [] is = refl
 lanes_given (a ∷ arcs) is = ap {B = List Lane} (λ ls. flat_lane a ∷ ls) (lanes_given arcs is)
 
 pub plain_states : (arcs : List Arc) (start goal : ℕ) → stated_by (plain_items arcs start goal) ≡ plain_stated arcs start goal
-unfolding plain_items plain_stated stated_by filter_map consIf size_in lane_in estimate_in job_in wait_in factors_in default_in head_d
+unfolding plain_items plain_stated stated_by filter_map cons_if size_in lane_in estimate_in job_in wait_in factors_in default_in head_d
 plain_states arcs start goal =
     let last : List Item = job (record { start = start; allowance = ample; goals = goal ∷ [] }) ∷ [] in
     let jobs = lanes_give_none job_in (λ a. refl) arcs last in

@@ -8,7 +8,7 @@ use native.Mathlib.Omega.{arith}
 use lib.Dec.{ltb}
 use lib.ListN.{length}
 use lib.Seq.{ext_get_or}
-use Rattle.model.specs.Lists.{filter, filter_map, least, leastBy, member}
+use Rattle.model.specs.Lists.{filter, filter_map, least, least_by, member}
 use Rattle.model.specs.Problem.{Problem, Arc, IsArc, Valid}
 use Rattle.model.specs.Paths.{Walk, stay, on, Within, PathWithin}
 use Rattle.model.specs.Costs.{Table, cost_at, table}
@@ -116,7 +116,7 @@ module _ (p q : Problem) (ok : Valid p) (fine : Valid q) (same : SameProblem p q
   pub same_first_goal : (t : Table) → first_goal p t ≡ first_goal q t
   unfolding first_goal
   same_first_goal t =
-      ap (λ (f : Key → Bool). leastBy precedes (filter f (within t)))
+      ap (λ (f : Key → Bool). least_by precedes (filter f (within t)))
       (fun_ext (λ k. same_member p.goals q.goals same.goal_to same.goal_from k.place))
 
   same_crossing : (a : Arc) → IsArc p a → (e f : Option ℕ) → crossing p a e f ≡ crossing q a e f

@@ -7,7 +7,7 @@ use native.Mathlib.Omega.{arith}
 use lib.ListN.{length, drop, take-append-drop}
 use lib.Seq.{take-add}
 use borrow.Author.Tests.{eqb-true, not-false}
-use Rattle.model.specs.Lists.{isGiven}
+use Rattle.model.specs.Lists.{is_given}
 use Rattle.model.specs.Bytes.{Bytes, u16, u32, put16, put32}
 use Rattle.model.specs.Framing.{Record, Framed, frame, put_record}
 use Rattle.model.specs.Items.{job_kind, job_bytes, Item, head, lane, estimate, job, wait, own_factors, default_estimate, other}
@@ -25,7 +25,7 @@ use Rattle.model.proofs.Allowances.{around_allowance}
 
 -- records that end with a job
 ends_in_job : (rs : List Record) → ends_with_job (items rs) ≡ true
-    → (es : List Record) × (r : Record) × (rs ≡ es ++ (r ∷ [])) × (isGiven (job_in (item_of r)) ≡ true)
+    → (es : List Record) × (r : Record) × (rs ≡ es ++ (r ∷ [])) × (is_given (job_in (item_of r)) ≡ true)
 unfolding ends_with_job items
 ends_in_job [] e = absurd (false≢true e)
 ends_in_job (r ∷ []) e = ([], r, refl, e)
@@ -33,11 +33,11 @@ ends_in_job (r ∷ s ∷ rs) e =
     let (es, last, is, given) = ends_in_job (s ∷ rs) e in
     (r ∷ es, last, ap (λ (l : List Record). r ∷ l) is, given)
 
-job_kind_lem : (r : Record) → isGiven (job_in (item_of r)) ≡ true → r.kind ≡ job_kind
-unfolding isGiven job_in
+job_kind_lem : (r : Record) → is_given (job_in (item_of r)) ≡ true → r.kind ≡ job_kind
+unfolding is_given job_in
 job_kind_lem r = go (item_of r) (kind_of r)
   where
-    go : (i : Item) → KindOf r i → isGiven (job_in i) ≡ true → r.kind ≡ job_kind
+    go : (i : Item) → KindOf r i → is_given (job_in i) ≡ true → r.kind ≡ job_kind
     go (head s) k e = absurd (false≢true e)
     go (lane l) k e = absurd (false≢true e)
     go (estimate s) k e = absurd (false≢true e)

@@ -8,7 +8,7 @@ use native.Mathlib.Decide.{dec_lt}
 use native.Mathlib.Omega.{arith}
 use lib.ListN.{get_or, get_or-eq_default}
 use borrow.Author.Tests.{le-ltb}
-use Rattle.model.specs.Lists.{any, isGiven, consIf, filter_map, repeats, rises}
+use Rattle.model.specs.Lists.{any, is_given, cons_if, filter_map, repeats, rises}
 use Rattle.model.specs.Bytes.{u16, u32, u16s, put16, put32, put16s}
 use Rattle.model.specs.Framing.{Record, frame}
 use Rattle.model.specs.Limits.{max_estimate}
@@ -29,7 +29,7 @@ unfoldable conditions : Unit {0}
 unfolding refusal rows input_rows form_rows size_rows map_rows factor_rows cost_rows job_rows room_rows first_that_holds stated stated_by head_d
     unknown_kind begins_with_head wrong_head wrong_size outside_map free_arc large_estimate two_estimates wrong_measure wrong_factors wrong_wait ends_with_job
     wrong_job job_outside_map wrong_goals goal_estimate short_work short_sheet body_length size_in lane_in estimate_in job_in wait_in factors_in default_in
-    filter_map consIf isGiven any repeats rises lookup
+    filter_map cons_if is_given any repeats rises lookup
 conditions = tt
 
 -- one place, the record, and a job from the place to itself
@@ -114,7 +114,7 @@ module _ (fs : List ℕ) (table : IsTable fs) where
       )
 
   pub tables_stated : (stated (frame (put_records (table_records fs))).records).factors ≡ fs
-  unfolding stated stated_by filter_map consIf factors_in head_d
+  unfolding stated stated_by filter_map cons_if factors_in head_d
   tables_stated = rw (frame_records (table_records fs) tables_fit, said (table_record fs) table_fits, table_item)
 
 -- ---- A default
@@ -159,5 +159,5 @@ module _ (x : ℕ) (small : x ≤ max_estimate) where
       )
 
   pub defaults_stated : default (stated (frame (put_records (default_records x))).records) ≡ x
-  unfolding default stated stated_by filter_map consIf default_in head_d
+  unfolding default stated stated_by filter_map cons_if default_in head_d
   defaults_stated = rw (frame_records (default_records x) defaults_fit, said (default_record x) default_fits, default_item)

@@ -8,7 +8,7 @@ use native.Mathlib.Omega.{arith}
 use lib.Dec.{eqb}
 use lib.ListN.{length}
 use borrow.Author.Tests.{eqb-true, eqb-false, eq-eqb, ne_eqb}
-use Rattle.model.specs.Lists.{any, consIf, filter_map, member, repeats}
+use Rattle.model.specs.Lists.{any, cons_if, filter_map, member, repeats}
 use Rattle.model.proofs.Lists.{cons_if_length}
 
 -- a flag that each element may set is set where some element sets it
@@ -31,12 +31,12 @@ any_append f (x ∷ xs) ys = ap (λ (t : Bool). f x || t) (any_append f xs ys) �
 
 module _ {A B : Type 0} (f : A → Option B) where
   pub filter_map_append : (xs ys : List A) → filter_map f (xs ++ ys) ≡ filter_map f xs ++ filter_map f ys
-  unfolding filter_map consIf
+  unfolding filter_map cons_if
   filter_map_append [] ys = refl
   filter_map_append (x ∷ xs) ys = go (f x) (filter_map_append xs ys)
     where
       go : (o : Option B) → filter_map f (xs ++ ys) ≡ filter_map f xs ++ filter_map f ys
-          → consIf o (filter_map f (xs ++ ys)) ≡ consIf o (filter_map f xs) ++ filter_map f ys
+          → cons_if o (filter_map f (xs ++ ys)) ≡ cons_if o (filter_map f xs) ++ filter_map f ys
       go none e = e
       go (some y) e = ap {B = List B} (λ (l : List B). y ∷ l) e
 

@@ -12,32 +12,32 @@ unfoldable pub filter {ℓ} : {A : Type ℓ} → (A → Bool) → List A → Lis
 filter f [] = []
 filter f (x ∷ xs) = cond (f x) (x ∷ filter f xs) (filter f xs)
 
-unfoldable pub isGiven {ℓ} : {A : Type ℓ} → Option A → Bool
-isGiven none = false
-isGiven (some x) = true
+unfoldable pub is_given {ℓ} : {A : Type ℓ} → Option A → Bool
+is_given none = false
+is_given (some x) = true
 
-unfoldable pub consIf {ℓ} : {A : Type ℓ} → Option A → List A → List A
-consIf none xs = xs
-consIf (some x) xs = x ∷ xs
+unfoldable pub cons_if {ℓ} : {A : Type ℓ} → Option A → List A → List A
+cons_if none xs = xs
+cons_if (some x) xs = x ∷ xs
 
 -- what f gives of the elements of which it gives something
 unfoldable pub filter_map {ℓ κ} : {A : Type ℓ} {B : Type κ} → (A → Option B) → List A → List B
-unfolding consIf
+unfolding cons_if
 filter_map f [] = []
-filter_map f (x ∷ xs) = consIf (f x) (filter_map f xs)
+filter_map f (x ∷ xs) = cons_if (f x) (filter_map f xs)
 
 unfoldable pub lesser {ℓ} : {A : Type ℓ} → (A → A → Bool) → A → Option A → A
 lesser before x none = x
 lesser before x (some y) = cond (before y x) y x
 
 -- the first element in the order `before`; of equals, the one that stands first
-unfoldable pub leastBy {ℓ} : {A : Type ℓ} → (A → A → Bool) → List A → Option A
+unfoldable pub least_by {ℓ} : {A : Type ℓ} → (A → A → Bool) → List A → Option A
 unfolding lesser
-leastBy before [] = none
-leastBy before (x ∷ xs) = some (lesser before x (leastBy before xs))
+least_by before [] = none
+least_by before (x ∷ xs) = some (lesser before x (least_by before xs))
 
 abbrev pub least : List ℕ → Option ℕ
-least = leastBy ltb
+least = least_by ltb
 
 unfoldable pub member : ℕ → List ℕ → Bool
 member x xs = any (eqb x) xs

@@ -1,7 +1,7 @@
 -- A query with limit C and budget b: its length, its cost and its outcome.
 use Rattle.std.specs.Prelude.{Bool, true, false, ◌&&◌, ◌||◌, List, [], ◌∷◌, ℕ, suc, ◌+◌, ltb, eqb, length}
 use Rattle.std.proofs.Math.Option.{Option, none, some}
-use Rattle.model.specs.Lists.{filter, consIf, filter_map, least, leastBy, member}
+use Rattle.model.specs.Lists.{filter, cons_if, filter_map, least, least_by, member}
 use Rattle.model.specs.Problem.{Problem, Arc}
 use Rattle.model.specs.Costs.{Table, cost_at, table}
 
@@ -21,14 +21,14 @@ key_of v (some d) = some (record { cost = d; place = v })
 -- the keys of a table's entries, the first of which is place v's
 unfoldable pub keys_from : ℕ → Table → List Key
 keys_from v [] = []
-keys_from v (e ∷ t) = consIf (key_of v e) (keys_from (suc v) t)
+keys_from v (e ∷ t) = cons_if (key_of v e) (keys_from (suc v) t)
 
 -- the places within C
 unfoldable pub within : Table → List Key
 within t = keys_from 0 t
 
 unfoldable pub first_goal : Problem → Table → Option Key
-first_goal p t = leastBy precedes (filter (λ (k : Key). member k.place p.goals) (within t))
+first_goal p t = least_by precedes (filter (λ (k : Key). member k.place p.goals) (within t))
 
 -- "Its length is the number of places before the first goal in that order, or of all places if no goal is within."
 unfoldable pub length_to : Option Key → List Key → ℕ

@@ -1,7 +1,7 @@
 -- Document 01, "Turned down, by who can cause it", with document 02's own numbers: each condition beside the paper's words, in groups, and the
 -- number that is given.
 use Rattle.std.specs.Prelude.{◌≡◌, Bool, false, cond, not, ◌||◌, List, [], ◌∷◌, ◌++◌, map, ℕ, zero, suc, ◌+◌, ◌*◌, ltb, leb, eqb, length}
-use Rattle.model.specs.Lists.{any, filter_map, isGiven, repeats, rises, falls}
+use Rattle.model.specs.Lists.{any, filter_map, is_given, repeats, rises, falls}
 use Rattle.model.specs.Framing.{Record, Framed, frame}
 use Rattle.model.specs.Limits.{max_places, max_arcs, max_cost, max_estimate, max_goals, max_length, max_class, max_factor}
 use Rattle.model.specs.Items.{Size, Charge, flat, measured, Lane, PlaceValue, Item, body_length, misfits, items, size_in, job_in, factors_in}
@@ -11,7 +11,7 @@ use Rattle.model.specs.Stated.{Stated, stated, lookup, arc_of}
 
 -- 2: "a kind other than 1 to 4", and document 02: "2 and 3 follow each new kind"
 unfoldable pub unknown_kind : List Item → Bool
-unknown_kind is = any (λ (i : Item). not (isGiven (body_length i))) is
+unknown_kind is = any (λ (i : Item). not (is_given (body_length i))) is
 
 -- 3: "a body length that its kind doesn't have"
 unfoldable pub wrong_length : List Record → Bool
@@ -19,7 +19,7 @@ wrong_length rs = any misfits rs
 
 unfoldable pub begins_with_head : List Item → Bool
 begins_with_head [] = false
-begins_with_head (i ∷ is) = isGiven (size_in i)
+begins_with_head (i ∷ is) = is_given (size_in i)
 
 -- 4: "the first record isn't a head (empty input too), or a second head"
 unfoldable pub wrong_head : List Item → Bool
@@ -98,7 +98,7 @@ wrong_wait s = repeats (places_in s.waits) || any (λ (l : Lane). ltb max_cost (
 
 unfoldable pub ends_with_job : List Item → Bool
 ends_with_job [] = false
-ends_with_job (i ∷ []) = isGiven (job_in i)
+ends_with_job (i ∷ []) = is_given (job_in i)
 ends_with_job (i ∷ j ∷ is) = ends_with_job (j ∷ is)
 
 -- 10: "not exactly one job, or it isn't last"

@@ -1,1 +1,2 @@
 // No code: the papers as definitions (specs/) and the laws about them (proofs/).
+#![tactic(auto)]

@@ -14,9 +14,9 @@ pub record Held (keys : List ℕ) (hand : ℕ) : Type 0 where
   pub idle : length keys ≤ place_of hand → key_of hand ≡ no_key
 
 -- list and hand together: the place has got this key, and no other place another
-pub record HandPut (place key : ℕ) (oldKeys : List ℕ) (oldHand : ℕ) (keys : List ℕ) (hand : ℕ) : Type 0 where
+pub record HandPut (place key : ℕ) (old_keys : List ℕ) (old_hand : ℕ) (keys : List ℕ) (hand : ℕ) : Type 0 where
   pub held : Held keys hand
-  pub keys_set : with_hand keys hand ≡ set (with_hand oldKeys oldHand) place key
+  pub keys_set : with_hand keys hand ≡ set (with_hand old_keys old_hand) place key
 
 -- all that the open list's structure needs
 pub record TreeAndHand (n hand : ℕ) (words : List ℕ) : Type 0 where

@@ -49,6 +49,6 @@ pub record CanClose (n hand place : ℕ) (words : List ℕ) : Type 0 where
   pub place_in : place < n
 
 -- what `lower` and `close` leave: the place has got this key, and no other place another
-pub record Put (n place key oldHand : ℕ) (old : List ℕ) (hand : ℕ) (words : List ℕ) : Type 0 where
+pub record Put (n place key old_hand : ℕ) (old : List ℕ) (hand : ℕ) (words : List ℕ) : Type 0 where
   pub list : OpenList n hand words
-  pub keys_set : keys_of n hand words ≡ set (keys_of n oldHand old) place key
+  pub keys_set : keys_of n hand words ≡ set (keys_of n old_hand old) place key

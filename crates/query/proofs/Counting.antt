@@ -8,7 +8,7 @@ use native.Mathlib.Nat.{add-zero, add-suc, suc-add, zero-add}
 use native.Mathlib.Decide.{ℕ_discrete}
 use native.Mathlib.Omega.{arith}
 use lib.ListN.{length}
-use Rattle.model.specs.Lists.{filter, consIf}
+use Rattle.model.specs.Lists.{filter, cons_if}
 use Rattle.model.specs.Costs.{Table, cost_at}
 use Rattle.model.specs.Query.{Key, key_of, keys_from, within}
 use Rattle.query.specs.Front.{also, count_below}
@@ -68,8 +68,8 @@ count_first f (suc n) = rw (count_first f n) (go (f (suc n)))
 -- one key more is counted where there is one that passes
 key_counted : (test : Key → Bool) (now : Bool) (v : ℕ) (e : Option ℕ) (ks : List Key)
     → ((d : ℕ) → e ≡ some d → test (record { cost = d; place = v }) ≡ now) → (e ≡ none → now ≡ false)
-    → length (filter test (consIf (key_of v e) ks)) ≡ cond now 1 0 + length (filter test ks)
-unfolding key_of consIf filter
+    → length (filter test (cons_if (key_of v e) ks)) ≡ cond now 1 0 + length (filter test ks)
+unfolding key_of cons_if filter
 key_counted test now v none ks inside outside = rw (outside refl) (omega arith)
 key_counted test now v (some d) ks inside outside = rw (inside d refl) (go now)
   where

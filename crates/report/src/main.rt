@@ -1,4 +1,6 @@
 // Program `report`: a map and the jobs of a day on standard input, the day's figures on standard output.
+#![tactic(auto)]
+
 ghost use Rattle.std.specs.Prelude.{◌+◌, ◌*◌, ◌≤◌, length, replicate};
 ghost use Rattle.model.specs.Limits.{max_places};
 ghost use Rattle.jobs.specs.Report.{numbers, report};
@@ -8,7 +10,6 @@ ghost use Rattle.report.specs.Printed.{count_room, wide_room, day_room, text_roo
 
 use console::{INPUT, Input, SHEET, WORK};
 use day::{Day, Status};
-use libc::STDIN_FILENO;
 use map::{Map, number};
 use tally::Tally;
 
@@ -85,7 +86,7 @@ fn put_goal(text: &mut [u8], at: usize, t: Tally) -> usize
     text::put_wide_line(text, at, &numbers)
 }
 
-// The goals of a tally that were reached. It goes over a list of records, so it is proved by a walk of its own, and kept thin.
+// The goals of a tally that were reached.
 fn put_goals(text: &mut [u8], at: usize, tally: &[Tally]) -> usize
     requires { at + wide_room * length tally.now ≤ length text.old }
     ensures { Put (goal_lines tally.now) at text.old text.new result }
@@ -100,7 +101,7 @@ fn put_goals(text: &mut [u8], at: usize, tally: &[Tally]) -> usize
     end
 }
 
-// All that is printed of an input. It lends a list of records, so it is thin too.
+// All that is printed of an input.
 fn put_report(text: &mut [u8], input: &[u8], work: &mut [u32], sheet: &mut [u8]) -> usize
     requires { text_room ≤ length text.old }
     ensures { Put (text_of (report input.now work.old sheet.old (replicate max_places no_tally))) 0
@@ -126,17 +127,22 @@ fn text_of(input: &[u8], text: &mut [u8; TEXT]) -> usize
 }
 
 // The text goes out by one call, which ends at the first write that fails: what stands there then is the text's beginning, and no more follows.
-fn reply(input: &[u8]) {
+fn reply(rt: &HostRuntime, input: &[u8]) {
     let mut text = [0u8; TEXT];
     let bytes = text_of(input, &mut text);
-    console::print(&text[..bytes], b"report: cannot write standard output\n");
+    console::print(
+        &rt.stdout(),
+        &rt.stderr(),
+        &text[..bytes],
+        b"report: cannot write standard output\n",
+    );
 }
 
-fn main() {
+fn main(rt: HostRuntime) {
     let mut input = [0u8; INPUT + 1];
-    let read = console::read_all(STDIN_FILENO, &mut input);
+    let read = console::read_all(&mut rt.stdin(), &mut input);
     match read {
-        Input::Bytes(bytes) => reply(&input[..bytes]),
-        Input::Failed => console::complain(b"report: cannot read standard input\n"),
+        Input::Bytes(bytes) => reply(&rt, &input[..bytes]),
+        Input::Failed => console::complain(&rt.stderr(), b"report: cannot read standard input\n"),
     }
 }

@@ -1,4 +1,6 @@
 // Program `route`: a map with its job on standard input, the answer on standard output.
+#![tactic(auto)]
+
 ghost use Rattle.std.specs.Prelude.{◌≡◌, ◌+◌, ◌*◌, ◌≤◌, length};
 ghost use Rattle.model.specs.Limits.{max_places};
 ghost use Rattle.answer.specs.Numbers.{answer_of};
@@ -7,7 +9,6 @@ ghost use Rattle.route.specs.Printed.{places_on, text_of, answered, Prints, Line
 
 use answer::Answer;
 use console::{INPUT, Input, SHEET, WORK};
-use libc::STDIN_FILENO;
 use map::Map;
 
 // Room for both lines, of 6 numbers and of at most as many as a map has places: 11 bytes a number and 1 more.
@@ -81,17 +82,22 @@ fn text_of(input: &[u8], text: &mut [u8; TEXT]) -> usize
 }
 
 // The text goes out by one call, which ends at the first write that fails: what stands there then is the text's beginning, and no more follows.
-fn reply(input: &[u8]) {
+fn reply(rt: &HostRuntime, input: &[u8]) {
     let mut text = [0u8; TEXT];
     let bytes = text_of(input, &mut text);
-    console::print(&text[..bytes], b"route: cannot write standard output\n");
+    console::print(
+        &rt.stdout(),
+        &rt.stderr(),
+        &text[..bytes],
+        b"route: cannot write standard output\n",
+    );
 }
 
-fn main() {
+fn main(rt: HostRuntime) {
     let mut input = [0u8; INPUT + 1];
-    let read = console::read_all(STDIN_FILENO, &mut input);
+    let read = console::read_all(&mut rt.stdin(), &mut input);
     match read {
-        Input::Bytes(bytes) => reply(&input[..bytes]),
-        Input::Failed => console::complain(b"route: cannot read standard input\n"),
+        Input::Bytes(bytes) => reply(&rt, &input[..bytes]),
+        Input::Failed => console::complain(&rt.stderr(), b"route: cannot read standard input\n"),
     }
 }

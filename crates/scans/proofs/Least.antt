@@ -10,7 +10,7 @@ use native.Mathlib.Decide.{ℕ_discrete, dec_lt}
 use native.Mathlib.Omega.{arith}
 use lib.Dec.{ltb}
 use borrow.Author.Tests.{lt-ltb, le-ltb}
-use Rattle.model.specs.Lists.{consIf, filter_map, least, leastBy, lesser}
+use Rattle.model.specs.Lists.{cons_if, filter_map, least, least_by, lesser}
 use Rattle.model.proofs.Same.{same_least}
 use Rattle.model.proofs.Tests.{filter_map_append}
 use Rattle.layout.specs.Labels.{no_word, word_or}
@@ -30,7 +30,7 @@ module _ {A : Type 0} (f : A → Option ℕ) where
   -- elements of which f gives nothing add nothing
   pub filter_map_nothing : {B : Type 0} (g : B → A) → ((y : B) → f (g y) ≡ none) → (xs : List A) (ys : List B)
       → filter_map f (xs ++ map g ys) ≡ filter_map f xs
-  unfolding filter_map consIf
+  unfolding filter_map cons_if
   filter_map_nothing {B} g h xs ys = filter_map_append f xs (map g ys) ∙ rw (nothing ys) (append-nil (filter_map f xs))
     where
       nothing : (ys : List B) → filter_map f (map g ys) ≡ []
@@ -38,7 +38,7 @@ module _ {A : Type 0} (f : A → Option ℕ) where
       nothing (y ∷ ys) = rw (h y) (nothing ys)
 
 least_snoc : (xs : List ℕ) (x : ℕ) → least (xs ++ (x ∷ [])) ≡ some (lesser ltb x (least xs))
-unfolding leastBy
+unfolding least_by
 least_snoc xs x = same_least (xs ++ (x ∷ [])) (x ∷ xs) to from
   where
     to : (y : ℕ) → Memᴰ y (xs ++ (x ∷ [])) → Memᴰ y (x ∷ xs)
@@ -76,9 +76,9 @@ word_snoc r x xs l e = go (ℕ_discrete r no_word) ∙ sym (least_snoc xs x)
 -- one element more
 pub word_step : {A : Type 0} (f : A → Option ℕ) (xs : List A) (a : A) (r : ℕ) → ((x : ℕ) → f a ≡ some x → x < no_word)
     → word_or r ≡ least (filter_map f xs) → word_or (lesser ltb r (f a)) ≡ least (filter_map f (xs ++ (a ∷ [])))
-unfolding filter_map consIf lesser
+unfolding filter_map cons_if lesser
 word_step f xs a r h e = rw (filter_map_append f xs (a ∷ [])) (go (f a) h)
   where
-    go : (o : Option ℕ) → ((x : ℕ) → o ≡ some x → x < no_word) → word_or (lesser ltb r o) ≡ least (filter_map f xs ++ consIf o [])
+    go : (o : Option ℕ) → ((x : ℕ) → o ≡ some x → x < no_word) → word_or (lesser ltb r o) ≡ least (filter_map f xs ++ cons_if o [])
     go none h = rw append-nil e
     go (some x) h = word_snoc r x (filter_map f xs) (h x refl) e

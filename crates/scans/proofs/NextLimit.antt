@@ -10,7 +10,7 @@ use native.Mathlib.Omega.{arith}
 use lib.Dec.{ltb}
 use borrow.Author.Tests.{lt-ltb, le-ltb}
 use Rattle.model.specs.Costs.{cost_at}
-use Rattle.model.specs.Lists.{filter_map, least, leastBy, lesser}
+use Rattle.model.specs.Lists.{filter_map, least, least_by, lesser}
 use Rattle.model.specs.Problem.{Arc}
 use Rattle.model.specs.Query.{crossing, next_limit}
 use Rattle.model.proofs.Lists.{none-some, filter_map_member}
@@ -91,7 +91,7 @@ module _ (s : Site) (u : ℕ) (w : List ℕ) (g : LimitRow s u w) where
 
 -- ---- the rows of all listed places
 pub no_rows : (s : Site) (count : ℕ) (w : List ℕ) → LimitUpTo s count 0 no_word w
-unfolding rows_listed filter_map leastBy
+unfolding rows_listed filter_map least_by
 no_rows s count w = record { to_end = omega arith; so_far = record { least_sum = word_or-none no_word refl } }
 
 module _ (s : Site) (count : ℕ) (w : List ℕ) (g : Listed s count w) where

@@ -12,7 +12,7 @@ use lib.Dec.{ltb, eqb}
 use lib.ListN.{length, get_or}
 use borrow.Author.Tests.{lt-ltb, le-ltb, eqb-true, eq-eqb, ne_eqb}
 use Rattle.model.specs.Costs.{Table, cost_at}
-use Rattle.model.specs.Lists.{filter_map, leastBy, lesser}
+use Rattle.model.specs.Lists.{filter_map, least_by, lesser}
 use Rattle.model.specs.Problem.{Arc}
 use Rattle.model.specs.Routes.{parent_by}
 use Rattle.model.proofs.Lists.{none-some, both, not_true_false}
@@ -278,7 +278,7 @@ one_row_more s u w₀ w₁ w h j v =
 
 -- before the first row no place has a parent
 pub no_rows : (s : Site) (w₀ w : List ℕ) → Recorded s w₀ → NoParents s.places w₀ w → ParentsUpTo s 0 w w
-unfolding rows_below filter_map leastBy
+unfolding rows_below filter_map least_by
 no_rows s w₀ w g c =
     let none : (v : ℕ) → v < s.places → word_or (parent_word s.places w v) ≡ none = λ v l. word_or-none _ (c.none v l) in
     let over : ParentsOver s.places (labels s.places w) (depths s.places w) (rows_below s.places w 0) 0 w =

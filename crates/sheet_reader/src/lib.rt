@@ -155,8 +155,7 @@ pub fn read(sheet: &[u8]) -> Reading
 }
 
 // What the host asks of a sheet, by a question number: 0 the read's number, 1 the cost, 2 the count of places, 3 + i place i.
-#[unsafe(no_mangle)]
-pub extern "C" fn r3_sheet(sheet: &[u8], question: u32) -> u32
+pub fn r3_sheet(sheet: &[u8], question: u32) -> u32
     ensures { result ≡ host_answer (read_sheet sheet.now) question }
 {
     let reading = read(sheet);

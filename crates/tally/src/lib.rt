@@ -1,5 +1,5 @@
-// The per-goal tally: a lent list of records with three numbers each. What goes over such a list is kept thin, since each such function is proved by a
-// walk of its own: records are made of plain numbers here, and the numbers are reckoned elsewhere.
+// The per-goal tally: a lent list of records with three numbers each. Records are made of plain numbers here, and the numbers are reckoned
+// elsewhere.
 #![tactic(auto)]
 
 ghost use Rattle.std.specs.Prelude.{◌≡◌, ◌<◌, ◌^◌};

@@ -1,4 +1,6 @@
 // Lines of numbers as bytes, put one after another into a lent text.
+#![tactic(auto)]
+
 ghost use Rattle.std.specs.Prelude.{◌+◌, ◌*◌, ◌<◌, ◌≤◌, [], ◌∷◌, length};
 ghost use Rattle.text.specs.Text.{decimal, in_line, line, Put};
 

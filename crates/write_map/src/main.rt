@@ -1,8 +1,9 @@
 // Program `write_map`: a map with its job on standard input, the same in its canonical form on standard output.
+#![tactic(auto)]
+
 ghost use Rattle.write_map.specs.Printed.{streams_of, answered, printed, Holds};
 
 use console::{INPUT, Input, WORK};
-use libc::STDIN_FILENO;
 
 // Room for what standard error may have: a line of one number, 11 bytes and 1 more; `too long` takes less.
 const LINE: usize = 11 + 1;
@@ -42,21 +43,29 @@ fn texts_of(input: &[u8], out: &mut [u8; INPUT], err: &mut [u8; LINE]) -> Length
 
 // Each text goes out by one call, and a stream whose text is empty is left alone. What stands there after a write that fails is the map's
 // beginning, and no more follows.
-fn reply(input: &[u8]) {
+fn reply(rt: &HostRuntime, input: &[u8]) {
     let mut out = [0u8; INPUT];
     let mut err = [0u8; LINE];
     let lengths = texts_of(input, &mut out, &mut err);
     let bytes = lengths.out;
     let end = lengths.err;
-    console::print(&out[..bytes], b"write_map: cannot write standard output\n");
-    console::complain(&err[..end]);
+    console::print(
+        &rt.stdout(),
+        &rt.stderr(),
+        &out[..bytes],
+        b"write_map: cannot write standard output\n",
+    );
+    console::complain(&rt.stderr(), &err[..end]);
 }
 
-fn main() {
+fn main(rt: HostRuntime) {
     let mut input = [0u8; INPUT + 1];
-    let read = console::read_all(STDIN_FILENO, &mut input);
+    let read = console::read_all(&mut rt.stdin(), &mut input);
     match read {
-        Input::Bytes(bytes) => reply(&input[..bytes]),
-        Input::Failed => console::complain(b"write_map: cannot read standard input\n"),
+        Input::Bytes(bytes) => reply(&rt, &input[..bytes]),
+        Input::Failed => console::complain(
+            &rt.stderr(),
+            b"write_map: cannot read standard input\n",
+        ),
     }
 }

@@ -1,0 +1,19 @@
+-- No loop: what is put stands for the status that is matched, and where there is a report the figures stand after the counts. Assumes nothing.
+use mathlib.Core.Path.{◌≡◌}
+use lib.ListN.{length}
+use Rattle.jobs.specs.Report.{numbers}
+use borrow.Author.Rules.{rules}
+use Rattle.report.proofs.Lines.{too_long_lem, short_tally, reported}
+use Rattle.report.proofs.put_day.Goals as goal
+
+pub returns-in-TooLong : goal.returns-in-TooLong
+returns-in-TooLong c = too_long_lem _ _ c.in-TooLong.is c.put_bytes.ensures
+
+pub returns-in-ShortTally : goal.returns-in-ShortTally
+returns-in-ShortTally c = short_tally _ _ c.in-ShortTally.is c.put_line.ensures
+
+pub returns-in-Reported : goal.returns-in-Reported
+returns-in-Reported c =
+    let told = c.in-Reported.is in
+    let all : length c.args.day.counts ≡ numbers = search rules in
+    reported _ _ told all c.put_counts-end.ensures c.put_figures.ensures

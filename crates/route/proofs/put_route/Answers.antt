@@ -1,0 +1,42 @@
+-- No loop: line one, and line two for 0. Assumes nothing.
+use mathlib.Core.Path.{◌≡◌, sym}
+use Prim.Native.Nat.{◌≤◌}
+use native.Mathlib.Omega.{arith}
+use lib.ListN.{length}
+use lib.Seq.{length-take-le}
+use Rattle.answer.specs.Numbers.{answer_of}
+use Rattle.text.proofs.Puts.{put_then}
+use Rattle.route.specs.Printed.{answered}
+use Rattle.route.proofs.Sheets.{sheet_within}
+use Rattle.route.proofs.Printing.{one_line, two_lines}
+use Rattle.route.proofs.put_route.Goals.{After-index32-bytes, After-route-answer}
+use Rattle.route.proofs.put_route.Goals as goal
+
+called : (c : After-route-answer) → (record { answer = answer_of c.route-answer.result; work = c.route-answer.new.work; sheet = c.route-answer.new.sheet }) ≡ answered c.args.input.now
+unfolding answered
+called c = c.route-answer.ensures.result
+
+-- its sheet is within the area
+within : (c : After-index32-bytes) → c.index32-bytes.result ≤ length c.route-answer.new.sheet
+unfolding answered
+within c =
+    let called : (record { answer = answer_of c.route-answer.result; work = c.route-answer.new.work; sheet = c.route-answer.new.sheet }) ≡ answered c.args.input.now =
+    c.route-answer.ensures.result in
+    let w = rw (← called) at (sheet_within c.args.input.now) in
+    omega arith
+
+pub returns-then-answer-ne0 : goal.returns-then-answer-ne0
+returns-then-answer-ne0 c =
+    rw (← (called (goal.at.returns-then-answer-ne0 c).After-route-answer), one_line (record { answer = answer_of c.route-answer.result; work = c.route-answer.new.work; sheet = c.route-answer.new.sheet }) c.if-answer-ne0.true) c.put_answer-end.ensures.put
+
+pub slice_bounds-sheet-end : goal.slice_bounds-sheet-end
+slice_bounds-sheet-end c = (within (goal.at.slice_bounds-sheet-end c).After-index32-bytes)
+
+pub slice_bounds-put_places-end : goal.slice_bounds-put_places-end
+slice_bounds-put_places-end c = sym (length-take-le _ _ (within (goal.at.slice_bounds-put_places-end c).After-index32-bytes))
+
+pub returns : goal.returns
+returns c =
+    let one = c.put_answer-end.ensures.put in
+    let two = rw c.index32-bytes.ensures at c.put_places.ensures in
+    rw (← (called (goal.at.returns c).After-route-answer), two_lines (record { answer = answer_of c.route-answer.result; work = c.route-answer.new.work; sheet = c.route-answer.new.sheet }) c.if-answer-ne0.false) (put_then (omega arith) one two)
