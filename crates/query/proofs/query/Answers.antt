@@ -1,4 +1,6 @@
 use mathlib.Core.Path.{◌≡◌, sym, ◌∙◌}
+use mathlib.Core.List.{List}
+use Prim.Native.Nat.{ℕ}
 use native.Mathlib.Omega.{arith}
 use lib.ListN.{drop}
 use Rattle.area.specs.Part.{part}
@@ -8,6 +10,9 @@ use Rattle.layout.proofs.Held.{few_places_lem}
 use Rattle.model.specs.Costs.{cost_at}
 use Rattle.query.specs.Front.{NoneOpen}
 use Rattle.query.specs.Open.{settled_at}
+use Rattle.map.specs.declared.Site.{Site}
+use Rattle.query.specs.Query.{Askable}
+use Rattle.query.specs.State.{Blank, Arrived, Searching}
 use Rattle.query.proofs.Regions.{begun-map}
 use Rattle.query.proofs.QueryUnderway as underway
 use Rattle.query.proofs.QueryUnderway.{QueryUnderway, Taken}
@@ -16,42 +21,40 @@ use Rattle.query.proofs.Answers as answers
 use Rattle.query.proofs.query.Goals.{After-slice_known-3-1, At-loop-work, Else-d, Then-d}
 use Rattle.query.proofs.query.Goals as goal
 
-same_map : (c : After-slice_known-3-1) → (let a = c.args in drop (ends_at a.site.places) c.arrive-hand.new.work ≡ drop (ends_at a.site.places) a.work.now)
+-- the words with which the loop begins hold the map that was there at entry
+same_map : (c : After-slice_known-3-1)
+    → (let a = c.args in drop (ends_at a.site.places) c.arrive-hand.new.work ≡ drop (ends_at a.site.places) a.work.now)
 same_map c = begun-map c.clear.ensures c.arrive-hand.ensures
 
-under : (c : At-loop-work) → (let a = c.args in QueryUnderway a.site a.limit a.budget a.left c.arrive-hand.new.work c.loop-work.hand c.loop-work.work c.loop-work.count)
-under c =
-    let same_map : (let a = c.args in drop (ends_at a.site.places) c.arrive-hand.new.work ≡ drop (ends_at a.site.places) a.work.now) =
-    begun-map c.clear.ensures c.arrive-hand.ensures in
-    let arrive = c.arrive-hand.ensures in
-    let length = arrive.same_length ∙ c.clear.ensures.same_length in
-    record { ask = underway.ask_same _ c.requires _ same_map length _ arrive.list; search = c.loop-work.invariant }
+-- a search that began by arriving at the start, over cleared words
+searching : {s : Site} {limit budget left v d k hand₀ hand₁ hand count : ℕ} {w₀ w₁ w₂ w : List ℕ}
+    → Askable s limit w₀ → Blank s.places w₀ w₁ → Arrived s.places v d k hand₀ w₁ hand₁ w₂
+    → Searching s limit budget left w₂ hand w count → QueryUnderway s limit budget left w₂ hand w count
+searching asked blank arrived search =
+    let length = arrived.same_length ∙ blank.same_length in
+    record { ask = underway.ask_same _ asked _ (begun-map blank arrived) length _ arrived.list; search = search }
 
-taken : (c : Else-d) → (let a = c.args in Taken a.site a.limit a.budget a.left c.arrive-hand.new.work c.loop-work.hand c.loop-work.work c.loop-work.count c.place_of-place.result c.key_of-d.result)
+under : (c : At-loop-work)
+    → (let a = c.args in let l = c.loop-work in QueryUnderway a.site a.limit a.budget a.left c.arrive-hand.new.work l.hand l.work l.count)
+under c = searching c.requires c.clear.ensures c.arrive-hand.ensures c.loop-work.invariant
+
+-- where the first of the open list is a place, and where it is none
+taken : (c : Else-d)
+    → (let a = c.args in let l = c.loop-work in
+    Taken a.site a.limit a.budget a.left c.arrive-hand.new.work l.hand l.work l.count c.place_of-place.result c.key_of-d.result)
 unfolding part
 taken c =
-    let same_map : (let a = c.args in drop (ends_at a.site.places) c.arrive-hand.new.work ≡ drop (ends_at a.site.places) a.work.now) =
-    begun-map c.clear.ensures c.arrive-hand.ensures in
-    let under : (let a = c.args in QueryUnderway a.site a.limit a.budget a.left c.arrive-hand.new.work c.loop-work.hand c.loop-work.work c.loop-work.count) =
-    let arrive = c.arrive-hand.ensures in
-    let length = arrive.same_length ∙ c.clear.ensures.same_length in
-    record { ask = underway.ask_same _ c.requires _ same_map length _ arrive.list; search = c.loop-work.invariant } in
+    let search = searching c.requires c.clear.ensures c.arrive-hand.ensures c.loop-work.invariant in
     let first = rw (← c.place_of-place.ensures, ← c.key_of-d.ensures) at c.least-first.ensures in
-    underway.taken _ under _ _ c.open_at-open_start.ensures c.parents_at-open_end.ensures _ _ first
-    (omega (arith, c.if-d.false))
+    underway.taken _ search _ _ c.open_at-open_start.ensures c.parents_at-open_end.ensures _ _ first (omega (arith, c.if-d.false))
 
-none_open : (c : Then-d) → (let n = c.args.site.places in NoneOpen (λ v. cost_at (labels n c.loop-work.work) v) (settled_at n c.loop-work.hand c.loop-work.work))
+none_open : (c : Then-d)
+    → (let n = c.args.site.places in let l = c.loop-work in NoneOpen (λ v. cost_at (labels n l.work) v) (settled_at n l.hand l.work))
 unfolding part
 none_open c =
-    let same_map : (let a = c.args in drop (ends_at a.site.places) c.arrive-hand.new.work ≡ drop (ends_at a.site.places) a.work.now) =
-    begun-map c.clear.ensures c.arrive-hand.ensures in
-    let under : (let a = c.args in QueryUnderway a.site a.limit a.budget a.left c.arrive-hand.new.work c.loop-work.hand c.loop-work.work c.loop-work.count) =
-    let arrive = c.arrive-hand.ensures in
-    let length = arrive.same_length ∙ c.clear.ensures.same_length in
-    record { ask = underway.ask_same _ c.requires _ same_map length _ arrive.list; search = c.loop-work.invariant } in
+    let search = searching c.requires c.clear.ensures c.arrive-hand.ensures c.loop-work.invariant in
     let first = rw (← c.place_of-place.ensures, ← c.key_of-d.ensures) at c.least-first.ensures in
-    underway.none_open _ under _ _ c.open_at-open_start.ensures c.parents_at-open_end.ensures _ _ first
-    (omega (arith, c.if-d.true))
+    underway.none_open _ search _ _ c.open_at-open_start.ensures c.parents_at-open_end.ensures _ _ first (omega (arith, c.if-d.true))
 
 pub open_at-open_start-requires : goal.open_at-open_start-requires
 open_at-open_start-requires c = few_places_lem _ _ c.requires.holds

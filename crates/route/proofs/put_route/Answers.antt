@@ -4,6 +4,7 @@ use Prim.Native.Nat.{◌≤◌}
 use native.Mathlib.Omega.{arith}
 use lib.ListN.{length}
 use lib.Seq.{length-take-le}
+use Rattle.model.specs.Answer.{Result}
 use Rattle.answer.specs.Numbers.{answer_of}
 use Rattle.text.proofs.Puts.{put_then}
 use Rattle.route.specs.Printed.{answered}
@@ -12,7 +13,11 @@ use Rattle.route.proofs.Printing.{one_line, two_lines}
 use Rattle.route.proofs.put_route.Goals.{After-index32-bytes, After-route-answer}
 use Rattle.route.proofs.put_route.Goals as goal
 
-called : (c : After-route-answer) → (record { answer = answer_of c.route-answer.result; work = c.route-answer.new.work; sheet = c.route-answer.new.sheet }) ≡ answered c.args.input.now
+-- the call's result, which is the definition's
+abbrev result : After-route-answer → Result
+result c = record { answer = answer_of c.route-answer.result; work = c.route-answer.new.work; sheet = c.route-answer.new.sheet }
+
+called : (c : After-route-answer) → result c ≡ answered c.args.input.now
 unfolding answered
 called c = c.route-answer.ensures.result
 
@@ -20,23 +25,23 @@ called c = c.route-answer.ensures.result
 within : (c : After-index32-bytes) → c.index32-bytes.result ≤ length c.route-answer.new.sheet
 unfolding answered
 within c =
-    let called : (record { answer = answer_of c.route-answer.result; work = c.route-answer.new.work; sheet = c.route-answer.new.sheet }) ≡ answered c.args.input.now =
-    c.route-answer.ensures.result in
-    let w = rw (← called) at (sheet_within c.args.input.now) in
+    let sheet = rw (← c.route-answer.ensures.result) at (sheet_within c.args.input.now) in
     omega arith
 
 pub returns-then-answer-ne0 : goal.returns-then-answer-ne0
 returns-then-answer-ne0 c =
-    rw (← (called (goal.at.returns-then-answer-ne0 c).After-route-answer), one_line (record { answer = answer_of c.route-answer.result; work = c.route-answer.new.work; sheet = c.route-answer.new.sheet }) c.if-answer-ne0.true) c.put_answer-end.ensures.put
+    let call = (goal.at.returns-then-answer-ne0 c).After-route-answer in
+    rw (← (called call), one_line (result call) c.if-answer-ne0.true) c.put_answer-end.ensures.put
 
 pub slice_bounds-sheet-end : goal.slice_bounds-sheet-end
-slice_bounds-sheet-end c = (within (goal.at.slice_bounds-sheet-end c).After-index32-bytes)
+slice_bounds-sheet-end c = within (goal.at.slice_bounds-sheet-end c).After-index32-bytes
 
 pub slice_bounds-put_places-end : goal.slice_bounds-put_places-end
 slice_bounds-put_places-end c = sym (length-take-le _ _ (within (goal.at.slice_bounds-put_places-end c).After-index32-bytes))
 
 pub returns : goal.returns
 returns c =
+    let call = (goal.at.returns c).After-route-answer in
     let one = c.put_answer-end.ensures.put in
     let two = rw c.index32-bytes.ensures at c.put_places.ensures in
-    rw (← (called (goal.at.returns c).After-route-answer), two_lines (record { answer = answer_of c.route-answer.result; work = c.route-answer.new.work; sheet = c.route-answer.new.sheet }) c.if-answer-ne0.false) (put_then (omega arith) one two)
+    rw (← (called call), two_lines (result call) c.if-answer-ne0.false) (put_then (omega arith) one two)

@@ -11,25 +11,17 @@ use Rattle.search.proofs.search.Goals as goal
 same_map : (c : After-slice_known-2-1) → (let a = c.args in drop (ends_at a.site.places) c.prepare.new.work ≡ drop (ends_at a.site.places) a.work.now)
 same_map c = c.prepare.ensures.same_map
 
-holds : (c : After-slice_known-2-1) → (Holds c.args.site c.prepare.new.work)
-holds c =
-    let same_map : (let a = c.args in drop (ends_at a.site.places) c.prepare.new.work ≡ drop (ends_at a.site.places) a.work.now) =
-    c.prepare.ensures.same_map in
-    holds_same _ _ _ same_map c.prepare.auto.work c.requires
+holds : (c : After-slice_known-2-1) → Holds c.args.site c.prepare.new.work
+holds c = holds_same _ _ _ c.prepare.ensures.same_map c.prepare.auto.work c.requires
 
 turn : (c : After-query-asked) → (let a = c.args in let loop = c.loop-site in turns.Turn a.site a.allowance c.prepare.new.work loop.work loop.round loop.expansions loop.queries c.limit_of-limit.result c.query-asked.new.work c.query-asked.result)
-turn c =
-    let same_map : (let a = c.args in drop (ends_at a.site.places) c.prepare.new.work ≡ drop (ends_at a.site.places) a.work.now) =
-    c.prepare.ensures.same_map in
-    let holds : (Holds c.args.site c.prepare.new.work) =
-    holds_same _ _ _ same_map c.prepare.auto.work c.requires in
-    record {
-      holds = holds;
-      between = c.loop-site.invariant;
-      limit_is = c.limit_of-limit.ensures;
-      answered = c.query-asked.ensures;
-      same_length = c.query-asked.auto.work;
-    }
+turn c = record {
+  holds = holds_same _ _ _ c.prepare.ensures.same_map c.prepare.auto.work c.requires;
+  between = c.loop-site.invariant;
+  limit_is = c.limit_of-limit.ensures;
+  answered = c.query-asked.ensures;
+  same_length = c.query-asked.auto.work;
+}
 
 pub prepare-requires : goal.prepare-requires
 prepare-requires c = turns.preparable c.requires
