@@ -2,7 +2,12 @@
 use mathlib.Core.Path.{sym, ◌∙◌}
 use native.Mathlib.Omega.{arith}
 use Rattle.sheet_reader.proofs.Records.{Header, route_short, route_unfit, no_places, many_places, low_cost, high_cost, no_list, route_sheet_lem}
+use Rattle.sheet_reader.proofs.read_route.Goals.{Else-body-count}
 use Rattle.sheet_reader.proofs.read_route.Goals as goal
+
+-- what the tests so far say of the fields before the places
+header : (c : Else-body-count) → Header c.args.body.now c.u32_at-cost.result c.index-count.result
+header c = record { costs = c.u32_at-cost.ensures; counts = omega arith; fits = c.if-body-count.false }
 
 pub returns-then-body-lt6 : goal.returns-then-body-lt6
 returns-then-body-lt6 c =
@@ -15,65 +20,27 @@ returns-then-body-count c =
 
 pub returns-then-count-eq0 : goal.returns-then-count-eq0
 returns-then-count-eq0 c =
-    let header : Header c.args.body.now c.u32_at-cost.result c.index-count.result =
-    record {
-      costs = c.u32_at-cost.ensures;
-      counts = omega arith;
-      fits = c.if-body-count.false;
-    } in
-    c.refused-then-count-eq0.ensures ∙ sym (no_places _ _ _ header (omega arith))
+    c.refused-then-count-eq0.ensures ∙ sym (no_places _ _ _ (header (goal.at.returns-then-count-eq0 c).Else-body-count) (omega arith))
 
 pub returns-then-count-gt-PLACES : goal.returns-then-count-gt-PLACES
 returns-then-count-gt-PLACES c =
-    let header : Header c.args.body.now c.u32_at-cost.result c.index-count.result =
-    record {
-      costs = c.u32_at-cost.ensures;
-      counts = omega arith;
-      fits = c.if-body-count.false;
-    } in
-    c.refused-then-count-gt-PLACES.ensures ∙ sym (many_places _ _ _ header (omega arith))
+    c.refused-then-count-gt-PLACES.ensures ∙ sym (many_places _ _ _ (header (goal.at.returns-then-count-gt-PLACES c).Else-body-count) (omega arith))
 
 pub returns-then-cost-arcs : goal.returns-then-cost-arcs
 returns-then-cost-arcs c =
-    let header : Header c.args.body.now c.u32_at-cost.result c.index-count.result =
-    record {
-      costs = c.u32_at-cost.ensures;
-      counts = omega arith;
-      fits = c.if-body-count.false;
-    } in
-    c.refused-then-cost-arcs.ensures ∙ sym (low_cost _ _ _ header (omega arith))
+    c.refused-then-cost-arcs.ensures ∙ sym (low_cost _ _ _ (header (goal.at.returns-then-cost-arcs c).Else-body-count) (omega arith))
 
 pub returns-then-arcs-cost : goal.returns-then-arcs-cost
 returns-then-arcs-cost c =
-    let header : Header c.args.body.now c.u32_at-cost.result c.index-count.result =
-    record {
-      costs = c.u32_at-cost.ensures;
-      counts = omega arith;
-      fits = c.if-body-count.false;
-    } in
-    c.refused-then-arcs-cost.ensures ∙ sym (high_cost _ _ _ header (omega arith))
+    c.refused-then-arcs-cost.ensures ∙ sym (high_cost _ _ _ (header (goal.at.returns-then-arcs-cost c).Else-body-count) (omega arith))
 
 pub returns-then-places : goal.returns-then-places
 returns-then-places c =
-    let header : Header c.args.body.now c.u32_at-cost.result c.index-count.result =
-    record {
-      costs = c.u32_at-cost.ensures;
-      counts = omega arith;
-      fits = c.if-body-count.false;
-    } in
     let p = c.places_of-places in
-    let h = header in
-    route_sheet_lem _ _ _ h (omega arith) (omega arith) (omega arith) (omega arith) p.result.possible c.if-places.true
+    route_sheet_lem _ _ _ (header (goal.at.returns-then-places c).Else-body-count) (omega arith) (omega arith) (omega arith) (omega arith) p.result.possible c.if-places.true
     p.result.list p.ensures _ (omega arith)
 
 pub returns : goal.returns
 returns c =
-    let header : Header c.args.body.now c.u32_at-cost.result c.index-count.result =
-    record {
-      costs = c.u32_at-cost.ensures;
-      counts = omega arith;
-      fits = c.if-body-count.false;
-    } in
     let p = c.places_of-places in
-    let h = header in
-    c.refused-2.ensures ∙ sym (no_list _ _ _ h p.result.possible c.if-places.false p.result.list p.ensures)
+    c.refused-2.ensures ∙ sym (no_list _ _ _ (header (goal.at.returns c).Else-body-count) p.result.possible c.if-places.false p.result.list p.ensures)
