@@ -1,11 +1,12 @@
 -- Laws of runs of stores.
 -- Assumes nothing.
-use mathlib.Core.Path.{◌≡◌, refl, ap, ◌∙◌}
-use mathlib.Core.List.{List, [], ◌∷◌, ◌++◌}
-use Prim.Native.Nat.{ℕ, suc, ◌+◌, ◌/◌, ◌≤◌}
+use mathlib.Core.Path.{◌≡◌, refl, ap, sym, ◌∙◌}
+use mathlib.Core.List.{List, [], ◌∷◌, ◌++◌, append_assoc}
+use Prim.Native.Nat.{ℕ, suc, ◌+◌, ◌-◌, ◌/◌, ◌≤◌}
 use native.Mathlib.Omega.{arith}
 use lib.ListN.{length, drop}
-use lib.Seq.{sets, sets-eq}
+use lib.Seq.{sets, sets-eq, drop-drop}
+use borrow.Rule.Slice.PartMut.{put_mid}
 use Rattle.model.specs.Bytes.{put16, put32}
 
 -- two runs of stores, one directly after the other, are one run
@@ -31,3 +32,10 @@ unfolding put16 put32
 two_fields s₀ x i low high =
     let last : x / 65536 / 256 ≡ x / 16777216 = omega arith in
     high ∙ ap (λ (l : List ℕ). sets l (i + 2) (put16 (x / 65536))) low ∙ sets_join (put16 x) (put16 (x / 65536)) s₀ i (i + 2) refl ∙ rw last
+
+-- a part that is copied over is a run of stores
+pub copied : {xs : List ℕ} (s bytes : List ℕ) (i : ℕ) → xs ≡ bytes → i + length bytes ≤ length s
+    → put_mid i (i + length bytes - i) s xs ≡ sets s i bytes
+copied s bytes i e h =
+    let n : i + length bytes - i ≡ length bytes = omega arith in
+    rw (e, n, drop-drop (length bytes) i s, ← append_assoc) (sym (sets-eq bytes s i h))

@@ -5,12 +5,6 @@ ghost use Rattle.std.specs.Prelude.{◌≡◌, ◌+◌, ◌<◌, ◌≤◌, leng
 ghost use Rattle.std.proofs.lemmas.List.Edits.{sets};
 ghost use Rattle.model.specs.Bytes.{u16, u32, put16 as bytes16, put32 as bytes32};
 
-fn wide8(x: u8) -> u16
-    ensures { (result ≡ x) × (result < 256) }
-{
-    x as u16
-}
-
 // A number of 16 bits as one of 32.
 pub fn wide16(x: u16) -> u32
     ensures { (result ≡ x) × (result < 65536) }
@@ -37,7 +31,7 @@ pub fn u16_at(s: &[u8], i: usize) -> u16
     requires { i + 1 < length s.now }
     ensures { result ≡ u16 s.now i }
 {
-    wide8(s[i]) + 256 * wide8(s[i + 1])
+    u16::from(s[i]) + 256 * u16::from(s[i + 1])
 }
 
 // The 4-byte field that begins at byte i.
@@ -45,18 +39,14 @@ pub fn u32_at(s: &[u8], i: usize) -> u32
     requires { i + 3 < length s.now }
     ensures { result ≡ u32 s.now i }
 {
-    wide16(u16_at(s, i)) + 65536 * wide16(u16_at(s, i + 2))
+    u32::from(u16_at(s, i)) + 65536 * u32::from(u16_at(s, i + 2))
 }
 
 // Every word of s becomes value.
 pub fn fill(s: &mut [u32], value: u32)
     ensures { s.new ≡ replicate (length s.old) value }
 {
-    let mut i = 0;
-    while i < s.len() {
-        s[i] = value;
-        i += 1;
-    }
+    s.fill(value);
 }
 
 // Writes the low 16 bits of x as the 2-byte field that begins at byte i.
@@ -82,9 +72,5 @@ pub fn put_bytes(s: &mut [u8], i: usize, bytes: &[u8])
     requires { i + length bytes.now ≤ length s.old }
     ensures { s.new ≡ sets s.old i bytes.now }
 {
-    let mut k = 0;
-    while k < bytes.len() {
-        s[i + k] = bytes[k];
-        k += 1;
-    }
+    s[i..i + bytes.len()].copy_from_slice(bytes);
 }
