@@ -8,12 +8,13 @@ use native.Mathlib.Omega.{arith}
 use lib.Dec.{ltb, leb, eqb}
 use lib.ListN.{length}
 use borrow.Author.Tests.{lt-ltb, leb-false, ne_eqb}
-use Rattle.judge.specs.Numbers.{no_number, number_or}
+use Rattle.judge.specs.Numbers.{no_number, number_or, given_number}
 use Rattle.judge.specs.Survey.{given, few_places, opening, size_or, is_head, stray, job_or, last_job, placed, item_rows}
 use Rattle.model.specs.Stated.{no_size}
 use Rattle.model.specs.Refusals.{row}
 use Rattle.model.proofs.Tests.{any_filter_map_append, filter_map_append, any_append, or_swap, repeats_snoc}
 use Rattle.judge.proofs.NumberLaws.{Joined, none as end, more}
+use Rattle.judge.proofs.RefusalLaws.{given_cond}
 use Rattle.map.specs.declared.record as declared
 use Rattle.map.specs.declared.record.Item.{Item}
 use Rattle.map.specs.declared.record.Item.TheVariants.{Head, Lane, Measured, Estimate, Wait, Factors, Default, Job, Misfit, Other}
@@ -237,18 +238,18 @@ pub record Again (n : ℕ) (places : List ℕ) (earlier again : Bool) (i : Item)
 -- what an item is given is the number of the conditions that it meets
 module _ (input : List ℕ) (n : ℕ) (places : List ℕ) (earlier again : Bool) where
   pub own_given : (first : Bool) (i : Item) → (first ≡ false → Again n places earlier again i)
-      → number_or no_number (own (is_other i) (is_misfit i) first n places earlier (meant input i)) ≡ given first n again i
+      → number_or no_number (own (is_other i) (is_misfit i) first n places earlier (meant input i)) ≡ given_number (given first n again i)
   unfolding number_or own stray_at is_other is_misfit meant given placed stated_by outside_map free_arc is_free
       large_estimate wrong_measure mismeasured
       filter_map cons_if any is_given model.size_in model.lane_in model.estimate_in model.default_in model.wait_in model.job_in
   own_given true (Head z) h = refl
   own_given false (Head z) h = refl
   own_given true (Lane l) h = refl
-  own_given false (Lane l) h = simp or-false
+  own_given false (Lane l) h = simp (or-false, given_cond)
   own_given true (Measured l) h = refl
-  own_given false (Measured l) h = simp or-false
+  own_given false (Measured l) h = simp (or-false, given_cond)
   own_given true (Estimate e) h = refl
-  own_given false (Estimate e) h = simp or-false (go (leb n e.place) refl)
+  own_given false (Estimate e) h = simp (or-false, given_cond) (go (leb n e.place) refl)
     where
       go : (t : Bool) → leb n e.place ≡ t
           → cond t 6 (cond (ltb max_estimate e.value) 8 (cond (member e.place places) 9 no_number))
@@ -256,11 +257,11 @@ module _ (input : List ℕ) (n : ℕ) (places : List ℕ) (earlier again : Bool)
       go true f = refl
       go false f = rw ((h refl).estimate e refl (leb-false n e.place f))
   own_given true (Wait w) h = refl
-  own_given false (Wait w) h = simp or-false
+  own_given false (Wait w) h = simp (or-false, given_cond)
   own_given true (Factors at) h = refl
   own_given false (Factors at) h = refl
   own_given true (Default x) h = refl
-  own_given false (Default x) h = simp or-false (rw ((h refl).default x refl))
+  own_given false (Default x) h = simp (or-false, given_cond) (rw ((h refl).default x refl))
   own_given true (Job j) h = refl
   own_given false (Job j) h = refl
   own_given true Misfit h = refl

@@ -6,7 +6,8 @@ use Prim.Native.Nat.{ℕ}
 use native.Mathlib.Omega.{arith}
 use lib.Dec.{leb, eqb}
 use borrow.Author.Tests.{not-false, eqb-true, leb-false}
-use Rattle.judge.specs.declared.Judgement.TheVariants.{Refused}
+use Rattle.std.specs.Prelude.{Err}
+use Rattle.map.specs.declared.refusal.Refusal.TheVariants.{WrongWait, WrongJob}
 use Rattle.judge.specs.declared.survey.Survey.{Survey}
 use Rattle.judge.specs.Judge.{Judged}
 use Rattle.judge.specs.Verdict.{RightMap, RightFactors, OneJob}
@@ -55,9 +56,9 @@ module _ (input marks : List ℕ) (s : Survey) (factors : List ℕ) (now : Right
       }
 
   -- 21
-  pub costs_refused : wrong_wait st ≡ true → Judged input (Refused 21)
+  pub costs_refused : wrong_wait st ≡ true → Judged input (Err WrongWait)
   unfolding cost_rows first_that_holds first_of
-  costs_refused wrong = refused input 21 (now.number ∙ rw wrong) (λ z. omega arith)
+  costs_refused wrong = refused input WrongWait (now.number ∙ rw wrong)
 
   module _ (costs : wrong_wait st ≡ false) where
     after_costs : input_refusal (frame input) ≡ first_that_holds (job_rows (items rs) st)
@@ -69,11 +70,11 @@ module _ (input marks : List ℕ) (s : Survey) (factors : List ℕ) (now : Right
     unfolding wrong_job
     job_same = rw (right.states.jobs, right.states.job_last)
 
-    pub job_refused : (not (eqb s.jobs 1) || not s.job_last) ≡ true → Judged input (Refused 10)
+    pub job_refused : (not (eqb s.jobs 1) || not s.job_last) ≡ true → Judged input (Err WrongJob)
     unfolding job_rows first_that_holds
     job_refused e =
         let wrong : wrong_job (items rs) ≡ true = sym job_same ∙ e in
-        refused input 10 (after_costs ∙ rw wrong) (λ z. omega arith)
+        refused input WrongJob (after_costs ∙ rw wrong)
 
     pub one_job : (not (eqb s.jobs 1) || not s.job_last) ≡ false → OneJob input marks s
     one_job e =

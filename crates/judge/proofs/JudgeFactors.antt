@@ -5,7 +5,8 @@ use mathlib.Core.List.{List}
 use Prim.Native.Nat.{ℕ}
 use native.Mathlib.Omega.{arith}
 use lib.Dec.{ltb}
-use Rattle.judge.specs.declared.Judgement.TheVariants.{Refused}
+use Rattle.std.specs.Prelude.{Err}
+use Rattle.map.specs.declared.refusal.Refusal.TheVariants.{WrongFactors}
 use Rattle.judge.specs.declared.survey.Survey.{Survey}
 use Rattle.judge.specs.Judge.{Judged}
 use Rattle.judge.specs.Verdict.{RightMap, RightFactors}
@@ -33,11 +34,11 @@ module _ (input marks : List ℕ) (s : Survey) (right : RightMap input marks s) 
   unfolding stated
   factors_same = rw (right.states.tables, is-broken, in_force) (wrong_in_force (items rs))
 
-  pub factors_refused : (ltb 1 s.tables || broken) ≡ true → Judged input (Refused 22)
+  pub factors_refused : (ltb 1 s.tables || broken) ≡ true → Judged input (Err WrongFactors)
   unfolding factor_rows first_that_holds first_of
   factors_refused e =
       let wrong : wrong_factors (items rs) ≡ true = sym factors_same ∙ e in
-      refused input 22 (right.number ∙ rw wrong) (λ z. omega arith)
+      refused input WrongFactors (right.number ∙ rw wrong)
 
   pub right_factors : (ltb 1 s.tables || broken) ≡ false → RightFactors input marks s factors
   unfolding factor_rows first_that_holds

@@ -7,7 +7,7 @@ use Prim.Native.Nat.{ℕ}
 use native.Mathlib.Omega.{arith}
 use lib.Dec.{leb, eqb}
 use borrow.Author.Tests.{lt-ltb, leb-false, eq-eqb, ne_eqb}
-use Rattle.judge.specs.declared.Judgement.TheVariants.{Accepted, Refused}
+use Rattle.std.specs.Prelude.{Ok, Err}
 use Rattle.judge.specs.declared.goals.Goals.{Goals}
 use Rattle.judge.specs.declared.survey.Survey.{Survey}
 use Rattle.judge.specs.Goals.{estimated_at, Checked}
@@ -18,6 +18,9 @@ use Rattle.judge.proofs.JudgeMap.{refused}
 use Rattle.model.proofs.Tests.{any_same}
 use Rattle.map.specs.declared.Job.{Job}
 use Rattle.map.specs.declared.Site.{Site}
+use Rattle.map.specs.declared.refusal.Refusal.{Refusal}
+use Rattle.map.specs.Refusals.{number_of}
+use Rattle.map.proofs.RefusalLaws.{number_within}
 use Rattle.map.specs.Items.{job_of}
 use Rattle.map.specs.Jobs.{States}
 use Rattle.model.specs.Bytes.{u16s}
@@ -94,20 +97,14 @@ module _ (input marks : List ℕ) (s : Survey) (j : OneJob input marks s) where
           go false false true = refl
           go false false false = refl
 
-      pub goals_refused : n ≢ no_number → Judged input (Refused n)
-      goals_refused h =
-          let given : input_refusal (frame input) ≡ n = refusal_same ∙ rw (ne_eqb n no_number h) in
-          refused input n given (positive (job_outside_map st) (wrong_goals st) (goal_estimate st) job_same)
-        where
-          positive : (a b c : Bool) → n ≡ goals_number a b c → n ≢ 0
-          positive true b c e z = omega arith
-          positive false true c e z = omega arith
-          positive false false true e z = omega arith
-          positive false false false e z = omega arith
+      pub goals_refused : (r : Refusal) → n ≡ number_of r → Judged input (Err r)
+      goals_refused r e =
+          let some : n ≢ no_number = λ z. omega (arith, (number_within r).1) in
+          refused input r (refusal_same ∙ rw (ne_eqb n no_number some) e)
 
       pub accepted : n ≡ no_number → (job : Job) → job.site ≡ record { places = s.places; arcs = s.arcs; start = s.job.start; growth = 2 }
           → job.allowance ≡ s.job.allowance → job.goals ≡ s.job.goals → job.goals_at ≡ s.job.goals_at
-          → job.factors_at ≡ s.factors_at → job.default ≡ s.default → Judged input (Accepted job)
+          → job.factors_at ≡ s.factors_at → job.default ≡ s.default → Judged input (Ok job)
       accepted none job is-site is-allowance is-count is_at is-table is_default =
           let states : States input job =
           record {
@@ -123,6 +120,5 @@ module _ (input marks : List ℕ) (s : Survey) (j : OneJob input marks s) where
           } in
           record {
             number = sym (refusal_same ∙ rw (eq-eqb n no_number none));
-            some_number = λ k e. let z : ◌≡◌ {A = ℕ} 0 1 = cc in absurd (omega arith);
             states = λ i e. let same : job ≡ i = cc in rw same at states;
           }

@@ -7,15 +7,19 @@ use Prim.Native.Nat.{ℕ, ◌≤◌, ◌<◌}
 use native.Mathlib.Omega.{arith}
 use lib.Dec.{ltb, eqb}
 use borrow.Author.Tests.{eq-eqb, ne_eqb}
-use Rattle.judge.specs.declared.Judgement.TheVariants.{Refused}
+use Rattle.std.specs.Prelude.{Some, None, Err}
 use Rattle.judge.specs.declared.survey.Survey.{Survey}
 use Rattle.judge.specs.Judge.{Judged}
-use Rattle.judge.specs.Numbers.{no_number, number_or}
+use Rattle.judge.specs.Numbers.{no_number, number_or, given_number}
 use Rattle.judge.specs.Survey.{few_places, placed, Surveyed}
 use Rattle.judge.specs.Verdict.{Formed, RightMap}
 use Rattle.judge.proofs.NumberLaws.{number_from, number_early, number_late, number_some, number_none, first_given, none-given}
 use Rattle.map.specs.declared.Map.{Map}
+use Rattle.map.specs.declared.refusal.Refusal.{Refusal}
+use Rattle.map.specs.declared.refusal.Refusal.TheVariants.{WrongSize}
+use Rattle.map.specs.Refusals.{number_of}
 use Rattle.map.specs.Sizes.{out_of_range}
+use Rattle.map.proofs.RefusalLaws.{number_within}
 use Rattle.map.proofs.Sizes.{WithinLimits}
 use Rattle.model.specs.Framing.{Record, frame}
 use Rattle.model.specs.Items.{items}
@@ -26,13 +30,8 @@ use Rattle.model.specs.Stated.{Stated, stated, stated_in}
 use Rattle.model.proofs.Lists.{neither}
 use Rattle.model.proofs.Rows.{input_groups}
 
-pub refused : (input : List ℕ) (n : ℕ) → input_refusal (frame input) ≡ n → n ≢ 0 → Judged input (Refused n)
-refused input n e h =
-    record {
-      number = sym e;
-      some_number = λ m f. let same : n ≡ m = cc in omega (arith, h);
-      states = λ j f. let z : ◌≡◌ {A = ℕ} 0 1 = cc in absurd (omega arith);
-    }
+pub refused : (input : List ℕ) (r : Refusal) → input_refusal (frame input) ≡ number_of r → Judged input (Err r)
+refused input r e = record { number = sym e; states = λ j f. let z : ◌≡◌ {A = ℕ} 0 1 = cc in absurd (omega arith) }
 
 map_above : (s : Stated) → 6 ≤ number_or no_number (map_rows s)
 unfolding map_rows any
@@ -46,18 +45,15 @@ module _ (input marks : List ℕ) (s : Survey) (v : Surveyed input marks s) wher
   above : 5 ≤ number_or no_number rest
   above = omega (arith, map_above (placed s.places (stated_in input)))
 
-  some_number : 1 ≤ s.number
-  unfolding form_rows map_rows any
-  some_number = rw v.number (number_from no_number 1 (form_rows (frame input) ++ rest) refl (omega arith))
-
-  pub form_refused : s.number < 5 → Judged input (Refused s.number)
+  pub form_refused : (r : Refusal) → s.refusal ≡ Some r → number_of r < 5 → Judged input (Err r)
   unfolding form_rows any
-  form_refused h =
-      let early = number_early no_number 5 rest above (form_rows (frame input)) refl (rw v.number at h) in
-      let positive : s.number ≢ 0 = λ z. omega (arith, some_number) in
-      refused input s.number (input_groups (frame input) ∙ first_given _ _ s.number (early ∙ sym v.number) positive) positive
+  form_refused r is h =
+      let given : number_of r ≡ number_or no_number (form_rows (frame input) ++ rest) = rw is at v.number in
+      let early = number_early no_number 5 rest above (form_rows (frame input)) refl (rw given at h) in
+      let positive : number_of r ≢ 0 = λ z. omega (arith, (number_within r).0) in
+      refused input r (input_groups (frame input) ∙ first_given _ _ (number_of r) (early ∙ sym given) positive)
 
-  pub formed : 5 ≤ s.number → Formed input marks s
+  pub formed : 5 ≤ given_number s.refusal → Formed input marks s
   unfolding form_rows any
   formed h =
       let late = number_late no_number 5 rest above (form_rows (frame input)) refl (rw v.number at h) in
@@ -93,17 +89,17 @@ module _ (input marks : List ℕ) (s : Survey) (f : Formed input marks s) where
       ∙ ap (λ (t : Bool). t || not (eqb s.arcs s.lanes)) (few_range st.size.places s.arcs)
       ∙ rw (f.states.arcs, f.states.lanes)
 
-  size_refused : (out_of_range s.places s.arcs || not (eqb s.arcs s.lanes)) ≡ true → Judged input (Refused 5)
+  size_refused : (out_of_range s.places s.arcs || not (eqb s.arcs s.lanes)) ≡ true → Judged input (Err WrongSize)
   unfolding size_rows first_that_holds
   size_refused e =
       let wrong : wrong_size st ≡ true = sym size_same ∙ e in
-      refused input 5 (after_form ∙ first_given _ _ 5 (rw wrong) λ z. omega arith) (λ z. omega arith)
+      refused input WrongSize (after_form ∙ first_given _ _ 5 (rw wrong) λ z. omega arith)
 
-  pub range_refused : out_of_range s.places s.arcs ≡ true → Judged input (Refused 5)
+  pub range_refused : out_of_range s.places s.arcs ≡ true → Judged input (Err WrongSize)
   range_refused e = size_refused (rw e)
 
   module _ (map : Map) (w : WithinLimits s.places s.arcs map) where
-    pub arcs_refused : map.arcs ≢ s.lanes → Judged input (Refused 5)
+    pub arcs_refused : map.arcs ≢ s.lanes → Judged input (Err WrongSize)
     arcs_refused h = size_refused (rw (w.in_range, ne_eqb s.arcs s.lanes λ e. h (w.arcs ∙ e)))
 
     -- 6 to 9 and 20
@@ -121,20 +117,23 @@ module _ (input marks : List ℕ) (s : Survey) (f : Formed input marks s) where
       unfolding size_rows first_that_holds
       after_size = after_form ∙ none-given _ _ (rw right_size)
 
-      number_same : s.number ≡ number_or no_number (map_rows st)
+      number_same : given_number s.refusal ≡ number_or no_number (map_rows st)
       unfolding placed
       number_same = f.number ∙ ap (λ (n : ℕ). number_or no_number (map_rows (placed n st))) places_same
 
-      pub map-refused : s.number ≢ no_number → Judged input (Refused s.number)
-      map-refused h =
-          let positive : s.number ≢ 0 = λ z. omega (arith, number_same, map_above st) in
-          let first = number_some no_number (map_rows st) (λ e. h (number_same ∙ e)) ∙ sym number_same in
-          refused input s.number (after_size ∙ first_given _ _ s.number first positive) positive
+      pub map-refused : (r : Refusal) → s.refusal ≡ Some r → Judged input (Err r)
+      map-refused r is =
+          let within = number_within r in
+          let given : number_of r ≡ number_or no_number (map_rows st) = rw is at number_same in
+          let some : number_or no_number (map_rows st) ≢ no_number = λ e. omega (arith, given, within.1) in
+          let positive : number_of r ≢ 0 = λ z. omega (arith, within.0) in
+          refused input r (after_size ∙ first_given _ _ (number_of r) (number_some no_number (map_rows st) some ∙ sym given) positive)
 
-      pub right-map : s.number ≡ no_number → RightMap input marks s
+      pub right-map : s.refusal ≡ None → RightMap input marks s
       unfolding map_rows any
-      right-map none =
-          let right = number_none no_number (map_rows st) refl (sym number_same ∙ none) in
+      right-map is =
+          let none : no_number ≡ number_or no_number (map_rows st) = rw is at number_same in
+          let right = number_none no_number (map_rows st) refl (sym none) in
           record {
             form = f.form;
             map = right;

@@ -1,5 +1,6 @@
 -- Laws of the passes, and how their results give the papers' number.
 pub mod NumberLaws
+pub mod RefusalLaws
 pub mod MarkLaws
 pub mod ItemLaws
 pub mod FactorLaws

@@ -3,11 +3,12 @@ use mathlib.Core.Path.{◌≡◌, refl, ap, ◌∙◌}
 use mathlib.Core.Bool.{Bool, true, false, cond}
 use mathlib.Core.List.{List, [], ◌∷◌, ◌++◌, append-nil}
 use mathlib.Core.Option.{Option, none, some}
-use Prim.Native.Nat.{ℕ, ◌+◌, ◌<◌, min}
+use Prim.Native.Nat.{ℕ, ◌+◌, ◌<◌}
 use lib.Dec.{eqb}
 use lib.ListN.{length}
 use Rattle.judge.specs.declared.survey.Survey.{Survey}
-use Rattle.judge.specs.Numbers.{no_number}
+use Rattle.std.specs.Prelude.{Some, None}
+use Rattle.judge.specs.Numbers.{earlier}
 use Rattle.judge.specs.Marks.{mark_of}
 use Rattle.judge.specs.Survey.{given, first_default, passed, opened, with_head, with_lane, with_wait, with_factors, with_default, with_job}
 use Rattle.judge.specs.Survey.{noted, marks_by, job_or}
@@ -17,6 +18,7 @@ use Rattle.judge.proofs.ItemLaws.{size_after, size_kept}
 use Rattle.map.specs.declared.record as declared
 use Rattle.map.specs.declared.record.Item.{Item}
 use Rattle.map.specs.declared.record.Item.TheVariants.{Head, Lane, Measured, Estimate, Wait, Factors, Default, Job, Misfit, Other}
+use Rattle.map.specs.declared.refusal.Refusal.TheVariants.{WrongHead}
 use Rattle.map.specs.Items.{job_of, meant, LiesIn, Says}
 use Rattle.model.specs.Items as model
 use Rattle.model.specs.Lists.{is_given, cons_if, filter_map}
@@ -44,7 +46,7 @@ pub record NotedOne (input : List ℕ) (again : Bool) (s : Survey) (first : Bool
       let size = size_after first (size_of s) (model.size_in said) in
       t
       ≡ record {
-        number = min s.number (given first s.places again i);
+        refusal = earlier s.refusal (given first s.places again i);
         records = s.records + 1;
         places = size.places;
         arcs = size.arcs;
@@ -66,7 +68,7 @@ module _ (input : List ℕ) (again : Bool) (s : Survey) where
       model.size_in model.lane_in model.wait_in model.factors_in model.default_in model.job_in
   noted_one (Head z) = go (eqb s.records 0)
     where
-      go : (first : Bool) → NotedOne input again s first (Head z) (cond first (opened (passed s no_number) z) (passed s 4))
+      go : (first : Bool) → NotedOne input again s first (Head z) (cond first (opened (passed s None) z) (passed s (Some WrongHead)))
       go true = record { fields = refl; job = refl }
       go false = record { fields = refl; job = refl }
   noted_one (Lane l) = record { fields = refl; job = refl }

@@ -14,8 +14,10 @@ use Rattle.model.specs.Refusals.{wrong_size, form_rows, size_rows, map_rows, fac
 use Rattle.model.proofs.Lists.{neither}
 use Rattle.model.proofs.Rows.{row_fails, input_numbered}
 use Rattle.judge.specs.Judge.{Judged, Passes}
-use Rattle.judge.specs.declared.Judgement.{Judgement}
-use Rattle.judge.specs.declared.Judgement.TheVariants.{Refused, Accepted}
+use Rattle.map.specs.declared.refusal.Refusal.{Refusal}
+use Rattle.map.specs.Refusals.{number_of}
+use Rattle.map.proofs.RefusalLaws.{number_within}
+use Rattle.std.specs.Prelude.{Result, Ok, Err}
 
 -- a number of the input itself is the call's
 given_first : (n m : ℕ) → (n ≡ 0 → ⊥) → n ≡ first_of n m
@@ -23,14 +25,14 @@ unfolding first_of
 given_first zero m h = absurd (h refl)
 given_first (suc n) m h = refl
 
-module _ {input : List ℕ} {g : Judgement} (judged : Judged input g) where
+module _ {input : List ℕ} {g : Result Job Refusal} (judged : Judged input g) where
   -- whatever number the room would be given
-  pub refused_first : {n : ℕ} → g ≡ Refused n → 1 ≤ n → (room : ℕ) → n ≡ first_of (input_refusal (frame input)) room
-  refused_first {n} e h room =
-      let own : n ≡ input_refusal (frame input) = rw e at judged.number in
-      given_first n room (λ z. omega arith) ∙ ap (λ (x : ℕ). first_of x room) own
+  pub refused_first : {r : Refusal} → g ≡ Err r → (room : ℕ) → number_of r ≡ first_of (input_refusal (frame input)) room
+  refused_first {r} e room =
+      let own : number_of r ≡ input_refusal (frame input) = rw e at judged.number in
+      given_first (number_of r) room (λ z. omega (arith, (number_within r).0)) ∙ ap (λ (x : ℕ). first_of x room) own
 
-  pub passes : {j : Job} → g ≡ Accepted j → Passes input j
+  pub passes : {j : Job} → g ≡ Ok j → Passes input j
   passes {j} e = record { number = sym (rw e at judged.number); states = judged.states j e }
 
 pub sizes : {input : List ℕ} {j : Job} → Passes input j → (j.site.places ≤ max_places) × (j.site.arcs ≤ max_arcs)

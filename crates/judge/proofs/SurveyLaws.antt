@@ -9,18 +9,21 @@ use lib.Dec.{ltb, eqb}
 use lib.ListN.{length, get_or, length-append, length-map}
 use borrow.Author.Tests.{ltb-false, eqb-true, ne_eqb}
 use Rattle.judge.specs.declared.survey.Survey.{Survey}
-use Rattle.judge.specs.Numbers.{no_number, number_or}
+use Rattle.std.specs.Prelude.{Some, None}
+use Rattle.judge.specs.Numbers.{no_number, number_or, given_number}
 use Rattle.judge.specs.Marks.{mark_of, first_mark}
 use Rattle.judge.specs.Survey.{given, few_places, passed, opened, with_head, with_lane, with_wait, with_factors, with_default, with_job}
 use Rattle.judge.specs.Survey.{noted, again_in, marks_by, Noted, said_of, said, opening, stray, placed, item_rows, Notes}
 use Rattle.model.proofs.Tests.{any_append, filter_map_append}
 use Rattle.judge.proofs.NumberLaws.{joined_least}
+use Rattle.judge.proofs.RefusalLaws.{earlier_least}
 use Rattle.judge.proofs.MarkLaws.{mark_positive, marked-member, marked_after}
 use Rattle.judge.proofs.ItemLaws.{ends_snoc, last_snoc, noted_size, size_after, opening_snoc, is_other, joined, Again, own_given, given_first}
 use Rattle.judge.proofs.NoteLaws.{count_or, default_or, size_of, noted_one, places_kept, noted_factors, marks_length}
 use Rattle.map.specs.declared.record as declared
 use Rattle.map.specs.declared.record.Item.{Item}
 use Rattle.map.specs.declared.record.Item.TheVariants.{Head, Lane, Measured, Estimate, Wait, Factors, Default, Job, Misfit, Other}
+use Rattle.map.specs.declared.refusal.Refusal.TheVariants.{WrongHead}
 use Rattle.map.specs.Records.{record_in}
 use Rattle.map.specs.Items.{is_misfit, meant, LiesIn, Says}
 use Rattle.model.specs.Framing.{Record}
@@ -125,7 +128,7 @@ module _ (input : List ℕ) (rs : List Record) (m : List ℕ) (s : Survey) (note
   noted_marks again (Head z) v = rw (append-nil es) (go (eqb s.records 0) refl)
     where
       go : (t : Bool) → eqb s.records 0 ≡ t
-          → get_or m v 0 ≡ cond (ltb v (cond t (opened (passed s no_number) z) (passed s 4)).places) (first_mark mark_of es v) 0
+          → get_or m v 0 ≡ cond (ltb v (cond t (opened (passed s None) z) (passed s (Some WrongHead))).places) (first_mark mark_of es v) 0
       go true e =
           let none : es ≡ [] = ap (λ (rs : List Record). filter_map model.estimate_in (said rs)) (none_yet e) in
           let clear : get_or m v 0 ≡ 0 = notes.mark v ∙ rw none (nothing_yet (ltb v s.places)) in
@@ -167,7 +170,7 @@ module _ (input : List ℕ) (rs : List Record) (m : List ℕ) (s : Survey) (note
     rows_after n = item_rows (unknown_kind (model.items rs) || is_other i) (wrong_length rs || is_misfit i) n (is ++ (meant input i ∷ []))
 
     least : (t : Bool) → eqb s.records 0 ≡ t → (n : ℕ) → (t ≡ false → Again n (places_in es) earlier again i)
-        → min (number_or no_number (rows_before n)) (given t n again i) ≡ number_or no_number (rows_after n)
+        → min (number_or no_number (rows_before n)) (given_number (given t n again i)) ≡ number_or no_number (rows_after n)
     least t e n right =
         let first : eqb (length is) 0 ≡ t = rw count e in
         rw (← own_given input n (places_in es) earlier again t i right)
@@ -180,18 +183,21 @@ module _ (input : List ℕ) (rs : List Record) (m : List ℕ) (s : Survey) (note
         filter_map any repeats
     no_rows e n = rw e
 
-    noted_rows : (noted again s i).number ≡ number_or no_number (rows_after (noted again s i).places)
-    noted_rows = ap (λ (t : Survey). t.number) (noted_one input again s i).fields ∙ go (eqb s.records 0) refl
+    noted_rows : given_number (noted again s i).refusal ≡ number_or no_number (rows_after (noted again s i).places)
+    noted_rows =
+        ap (λ (t : Survey). given_number t.refusal) (noted_one input again s i).fields
+        ∙ earlier_least s.refusal (given (eqb s.records 0) s.places again i)
+        ∙ go (eqb s.records 0) refl
       where
         go : (t : Bool) → eqb s.records 0 ≡ t
-            → min s.number (given t s.places again i) ≡ number_or no_number (rows_after (noted again s i).places)
+            → min (given_number s.refusal) (given_number (given t s.places again i)) ≡ number_or no_number (rows_after (noted again s i).places)
         go true e =
             let n = (noted again s i).places in
             let none = none_yet e in
-            let number : s.number ≡ number_or no_number (rows_before n) = notes.number ∙ no_rows none s.places ∙ sym (no_rows none n) in
-            ap₂ min number (given_first s.places n again again i) ∙ least true e n (λ later. absurd (true≢false later))
+            let number : given_number s.refusal ≡ number_or no_number (rows_before n) = notes.number ∙ no_rows none s.places ∙ sym (no_rows none n) in
+            ap₂ min number (ap given_number (given_first s.places n again again i)) ∙ least true e n (λ later. absurd (true≢false later))
         go false e =
-            ap (λ (x : ℕ). min x (given false s.places again i)) notes.number
+            ap (λ (x : ℕ). min x (given_number (given false s.places again i))) notes.number
             ∙ least false e s.places (λ later. again_right i)
             ∙ ap (λ (n : ℕ). number_or no_number (rows_after n)) (sym (places_kept input again s i e))
 

@@ -9,7 +9,8 @@ use lib.ListN.{length, drop, length-append}
 use lib.Seq.{append_snoc}
 use borrow.Author.Tests.{lt-ltb, ne_eqb}
 use Rattle.judge.specs.declared.survey.Survey.{Survey}
-use Rattle.judge.specs.Numbers.{no_number, number_or}
+use Rattle.std.specs.Prelude.{None}
+use Rattle.judge.specs.Numbers.{no_number, number_or, given_number}
 use Rattle.judge.specs.Marks.{first_mark, Clear}
 use Rattle.judge.specs.Survey.{few_places, with_head, with_lane, with_wait, with_factors, with_default, with_job, noted, again_in, Noted, Counted}
 use Rattle.judge.specs.Survey.{said_of, said, opening, stray, last_job, placed, item_rows, Notes, Walked, at_end, Stating, Surveyed}
@@ -41,7 +42,7 @@ use Rattle.model.proofs.Rows.{row_fails}
 abbrev empty : Survey
 empty =
     record {
-      number = no_number;
+      refusal = None;
       records = 0;
       places = 0;
       arcs = 0;
@@ -177,7 +178,7 @@ rows_form r rs n = go (wrong_length (r ∷ rs)) refl
 
 module _ (input : List ℕ) (m : List ℕ) (s : Survey) where
   end_number : (rs : List Record) → Notes input rs m s
-      → (at_end s).number ≡ number_or no_number (form_rows (framed rs) ++ map_rows (placed s.places (stated rs)))
+      → given_number (at_end s).refusal ≡ number_or no_number (form_rows (framed rs) ++ map_rows (placed s.places (stated rs)))
   unfolding at_end form_rows number_or unknown_kind wrong_length wrong_head model.items any begins_with_head
   end_number [] notes = rw notes.records
   end_number (r ∷ rs) notes =
@@ -209,7 +210,7 @@ module _ (input : List ℕ) (m : List ℕ) (s : Survey) where
       }
 
 module _ (input : List ℕ) (at : ℕ) (m : List ℕ) (s : Survey) (w : Walked input at m s) where
-  pub walk_broken : (t : Survey) → t.number ≡ 1 → read_at input at ≡ Broken → Surveyed input m t
+  pub walk_broken : (t : Survey) → given_number t.refusal ≡ 1 → read_at input at ≡ Broken → Surveyed input m t
   unfolding stop form_rows number_or first_that_holds
   walk_broken t one e =
       let broken : (frame input).broken ≡ true = w.broken ∙ ap (λ (f : Framed). f.broken) (frame_broken input at w.inside e) in

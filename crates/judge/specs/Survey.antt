@@ -3,8 +3,10 @@ use Rattle.std.specs.Prelude.{◌≡◌, Bool, true, false, cond, not, ◌||◌,
 use mathlib.Core.List.{List, [], ◌∷◌, ◌++◌, map, head_d}
 use Rattle.std.proofs.Math.Option.{Option, none, some}
 use Rattle.judge.specs.declared.survey.Survey.{Survey}
-use Rattle.judge.specs.Numbers.{no_number, number_or}
+use Rattle.judge.specs.Numbers.{Given, no_number, number_or, given_number, earlier}
 use Rattle.judge.specs.Marks.{mark_of, first_mark, marked, marked_by}
+use Rattle.std.specs.Prelude.{Some, None}
+use Rattle.map.specs.declared.refusal.Refusal.TheVariants.{UnknownKind, WrongLength, WrongHead, OutsideMap, FreeArc, LargeEstimate, TwoEstimates, WrongMeasure}
 use Rattle.map.specs.declared.record as declared
 use Rattle.map.specs.declared.record.Item.{Item}
 use Rattle.map.specs.declared.record.Item.TheVariants.{Head, Lane, Measured, Estimate, Wait, Factors, Default, Job, Misfit, Other}
@@ -19,46 +21,46 @@ use Rattle.model.specs.Stated.{Stated, no_size, no_job, fixed_factors, stated_by
 -- ---- What a record is given by itself
 
 -- what a record is given that is no head and may stand anywhere but first
-abbrev pub headless : Bool → ℕ
-headless first = cond first 4 no_number
+abbrev pub headless : Bool → Given
+headless first = cond first (Some WrongHead) None
 
-abbrev pub cost_number : ℕ → ℕ
-cost_number cost = cond (eqb cost 0) 7 no_number
+abbrev pub cost_refusal : ℕ → Given
+cost_refusal cost = cond (eqb cost 0) (Some FreeArc) None
 
-abbrev pub measure_number : (length class : ℕ) → ℕ
-measure_number length class = cond (ltb length 1 || ltb max_length length || ltb max_class class) 20 no_number
+abbrev pub measure_refusal : (length class : ℕ) → Given
+measure_refusal length class = cond (ltb length 1 || ltb max_length length || ltb max_class class) (Some WrongMeasure) None
 
 -- own: what its cost or its measure is given
-abbrev pub lane_number : Bool → (n from to own : ℕ) → ℕ
-lane_number first n from to own = cond first 4 (cond (leb n from || leb n to) 6 own)
+abbrev pub lane_refusal : Bool → (n from to : ℕ) → (own : Given) → Given
+lane_refusal first n from to own = cond first (Some WrongHead) (cond (leb n from || leb n to) (Some OutsideMap) own)
 
 -- of a place or as a default alike
-abbrev pub value_number : Bool → ℕ → ℕ
-value_number again value = cond (ltb max_estimate value) 8 (cond again 9 no_number)
+abbrev pub value_refusal : Bool → ℕ → Given
+value_refusal again value = cond (ltb max_estimate value) (Some LargeEstimate) (cond again (Some TwoEstimates) None)
 
 -- again: its place has an estimate already
-abbrev pub estimate_number : Bool → ℕ → Bool → declared.PlaceValue.PlaceValue → ℕ
-estimate_number first n again e = cond first 4 (cond (leb n e.place) 6 (value_number again e.value))
+abbrev pub estimate_refusal : Bool → ℕ → Bool → declared.PlaceValue.PlaceValue → Given
+estimate_refusal first n again e = cond first (Some WrongHead) (cond (leb n e.place) (Some OutsideMap) (value_refusal again e.value))
 
 -- again: there is a default already
-abbrev pub default_number : Bool → Bool → ℕ → ℕ
-default_number first again value = cond first 4 (value_number again value)
+abbrev pub default_refusal : Bool → Bool → ℕ → Given
+default_refusal first again value = cond first (Some WrongHead) (value_refusal again value)
 
 -- two waits for one place, and an arc that is too dear with its wait, are looked for later
-abbrev pub wait_number : Bool → (n place : ℕ) → ℕ
-wait_number first n place = cond first 4 (cond (leb n place) 6 no_number)
+abbrev pub wait_refusal : Bool → (n place : ℕ) → Given
+wait_refusal first n place = cond first (Some WrongHead) (cond (leb n place) (Some OutsideMap) None)
 
-unfoldable pub given : Bool → ℕ → Bool → Item → ℕ
-given first n again (Head z) = cond first no_number 4
-given first n again (Lane l) = lane_number first n l.from l.to (cost_number l.cost)
-given first n again (Measured l) = lane_number first n l.from l.to (measure_number l.length l.class)
-given first n again (Estimate e) = estimate_number first n again e
-given first n again (Wait w) = wait_number first n w.place
+unfoldable pub given : Bool → ℕ → Bool → Item → Given
+given first n again (Head z) = cond first None (Some WrongHead)
+given first n again (Lane l) = lane_refusal first n l.from l.to (cost_refusal l.cost)
+given first n again (Measured l) = lane_refusal first n l.from l.to (measure_refusal l.length l.class)
+given first n again (Estimate e) = estimate_refusal first n again e
+given first n again (Wait w) = wait_refusal first n w.place
 given first n again (Factors at) = headless first
-given first n again (Default x) = default_number first again x
+given first n again (Default x) = default_refusal first again x
 given first n again (Job j) = headless first
-given first n again Misfit = 3
-given first n again Other = 2
+given first n again Misfit = Some WrongLength
+given first n again Other = Some UnknownKind
 
 -- ---- What is noted of a record
 
@@ -66,11 +68,11 @@ given first n again Other = 2
 abbrev pub few_places : ℕ → ℕ
 few_places n = cond (ltb max_places n) 0 n
 
--- with one record more, which is given this number
-abbrev pub passed : Survey → ℕ → Survey
-passed s number =
+-- with one record more, which is given this refusal or none
+abbrev pub passed : Survey → Given → Survey
+passed s refusal =
     record {
-      number = min s.number number;
+      refusal = earlier s.refusal refusal;
       records = s.records + 1;
       places = s.places;
       arcs = s.arcs;
@@ -88,7 +90,7 @@ passed s number =
 abbrev pub opened : Survey → declared.Size.Size → Survey
 opened s z =
     record {
-      number = s.number;
+      refusal = s.refusal;
       records = s.records;
       places = few_places z.places;
       arcs = z.arcs;
@@ -104,13 +106,13 @@ opened s z =
     }
 
 unfoldable pub with_head : Survey → declared.Size.Size → Survey
-with_head s z = cond (eqb s.records 0) (opened (passed s no_number) z) (passed s 4)
+with_head s z = cond (eqb s.records 0) (opened (passed s None) z) (passed s (Some WrongHead))
 
-unfoldable pub with_lane : Survey → (from to own : ℕ) → Survey
+unfoldable pub with_lane : Survey → (from to : ℕ) → (own : Given) → Survey
 with_lane s from to own =
-    let t = passed s (lane_number (eqb s.records 0) s.places from to own) in
+    let t = passed s (lane_refusal (eqb s.records 0) s.places from to own) in
     record {
-      number = t.number;
+      refusal = t.refusal;
       records = t.records;
       places = t.places;
       arcs = t.arcs;
@@ -127,9 +129,9 @@ with_lane s from to own =
 
 unfoldable pub with_wait : Survey → ℕ → Survey
 with_wait s place =
-    let t = passed s (wait_number (eqb s.records 0) s.places place) in
+    let t = passed s (wait_refusal (eqb s.records 0) s.places place) in
     record {
-      number = t.number;
+      refusal = t.refusal;
       records = t.records;
       places = t.places;
       arcs = t.arcs;
@@ -153,7 +155,7 @@ unfoldable pub with_factors : Survey → ℕ → Survey
 with_factors s at =
     let t = passed s (headless (eqb s.records 0)) in
     record {
-      number = t.number;
+      refusal = t.refusal;
       records = t.records;
       places = t.places;
       arcs = t.arcs;
@@ -174,9 +176,9 @@ first_default defaults noted value = cond (eqb defaults 0) value noted
 
 unfoldable pub with_default : Bool → Survey → ℕ → Survey
 with_default again s value =
-    let t = passed s (default_number (eqb s.records 0) again value) in
+    let t = passed s (default_refusal (eqb s.records 0) again value) in
     record {
-      number = t.number;
+      refusal = t.refusal;
       records = t.records;
       places = t.places;
       arcs = t.arcs;
@@ -195,7 +197,7 @@ unfoldable pub with_job : Survey → declared.JobFields.JobFields → Survey
 with_job s j =
     let t = passed s (headless (eqb s.records 0)) in
     record {
-      number = t.number;
+      refusal = t.refusal;
       records = t.records;
       places = t.places;
       arcs = t.arcs;
@@ -212,15 +214,15 @@ with_job s j =
 
 unfoldable pub noted : Bool → Survey → Item → Survey
 noted again s (Head z) = with_head s z
-noted again s (Lane l) = with_lane s l.from l.to (cost_number l.cost)
-noted again s (Measured l) = with_lane s l.from l.to (measure_number l.length l.class)
-noted again s (Estimate e) = passed s (estimate_number (eqb s.records 0) s.places again e)
+noted again s (Lane l) = with_lane s l.from l.to (cost_refusal l.cost)
+noted again s (Measured l) = with_lane s l.from l.to (measure_refusal l.length l.class)
+noted again s (Estimate e) = passed s (estimate_refusal (eqb s.records 0) s.places again e)
 noted again s (Wait w) = with_wait s w.place
 noted again s (Factors at) = with_factors s at
 noted again s (Default x) = with_default again s x
 noted again s (Job j) = with_job s j
-noted again s Misfit = passed s 3
-noted again s Other = passed s 2
+noted again s Misfit = passed s (Some WrongLength)
+noted again s Other = passed s (Some UnknownKind)
 
 -- its place has an estimate already, by the marks; or there is a default already
 unfoldable pub again_in : Survey → List ℕ → Item → Bool
@@ -317,7 +319,7 @@ item_rows unknown misfit n is = row 2 unknown ∷ row 3 misfit ∷ row 4 (stray 
 
 -- the survey of the records rs
 pub record Notes (input : List ℕ) (rs : List Record) (marks : List ℕ) (s : Survey) : Type 0 where
-  pub number : s.number ≡ number_or no_number (item_rows (unknown_kind (model.items rs)) (wrong_length rs) s.places (said rs))
+  pub number : given_number s.refusal ≡ number_or no_number (item_rows (unknown_kind (model.items rs)) (wrong_length rs) s.places (said rs))
   pub records : s.records ≡ length rs
   pub places : s.places ≡ few_places (opening (said rs)).places
   pub arcs : s.arcs ≡ (opening (said rs)).arcs
@@ -343,11 +345,11 @@ pub record Walked (input : List ℕ) (at : ℕ) (marks : List ℕ) (s : Survey) 
   pub notes : Notes input passed marks s
   pub goals_end : s.job_last ≡ true → s.job.goals_at + 2 * s.job.goals ≡ at
 
--- with the number of an input that has no record
+-- with the refusal of an input that has no record
 unfoldable pub at_end : Survey → Survey
 at_end s =
     record {
-      number = cond (eqb s.records 0) 4 s.number;
+      refusal = cond (eqb s.records 0) (Some WrongHead) s.refusal;
       records = s.records;
       places = s.places;
       arcs = s.arcs;
@@ -383,5 +385,5 @@ pub record Stating (input : List ℕ) (marks : List ℕ) (s : Survey) : Type 0 w
 
 -- the survey of a whole input
 pub record Surveyed (input : List ℕ) (marks : List ℕ) (s : Survey) : Type 0 where
-  pub number : s.number ≡ number_or no_number (form_rows (frame input) ++ map_rows (placed s.places (stated_in input)))
+  pub number : given_number s.refusal ≡ number_or no_number (form_rows (frame input) ++ map_rows (placed s.places (stated_in input)))
   pub states : first_that_holds (form_rows (frame input)) ≡ 0 → Stating input marks s

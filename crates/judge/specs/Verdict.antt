@@ -1,7 +1,7 @@
 -- How the conditions are looked for: group by group, each group as soon as what it reads is known to stand there.
 use Rattle.std.specs.Prelude.{◌≡◌, Bool, false, cond, ◌||◌, List, ℕ, ◌+◌, ◌*◌, ◌≤◌, ltb, length}
 use Rattle.judge.specs.declared.survey.Survey.{Survey}
-use Rattle.judge.specs.Numbers.{no_number, number_or}
+use Rattle.judge.specs.Numbers.{no_number, number_or, given_number}
 use Rattle.judge.specs.Survey.{placed, MarksTell, Stating}
 use Rattle.map.specs.Items.{job_of, InForce}
 use Rattle.model.specs.Framing.{frame}
@@ -19,7 +19,7 @@ goals_number outside wrong estimated = cond outside 11 (cond wrong 12 (cond esti
 -- none of 1 to 4 holds
 pub record Formed (input : List ℕ) (marks : List ℕ) (s : Survey) : Type 0 where
   pub form : first_that_holds (form_rows (frame input)) ≡ 0
-  pub number : s.number ≡ number_or no_number (map_rows (placed s.places (stated_in input)))
+  pub number : given_number s.refusal ≡ number_or no_number (map_rows (placed s.places (stated_in input)))
   pub states : Stating input marks s
 
 -- none of 1 to 9 and 20 holds

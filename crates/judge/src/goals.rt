@@ -50,13 +50,9 @@ pub fn of(input: &[u8], at: usize, count: usize, places: usize, marks: &[u8; Map
         estimated: false,
         next: 0,
     };
-    let mut from = at;
-    let mut left = count;
-    while 0 < left {
-        let goal = area::index(area::u16_at(input, from));
+    for k in 0..count {
+        let goal = usize::from(area::u16_at(input, at + 2 * k));
         g = with_goal(g, goal, places, marks);
-        from += 2;
-        left -= 1;
     }
     g
 }

@@ -5,7 +5,7 @@ ghost use Rattle.model.specs.Limits.{max_places};
 
 use map::Map;
 
-// A place's mark is 0 where it has no estimate.
+// A place's mark is 0 where it has no estimate. Marks are numbers, as noted waits are: both passes share one law of marks (specs/Marks.antt).
 pub const ESTIMATE_0: u8 = 1;
 
 pub const ESTIMATE_ABOVE_0: u8 = 2;

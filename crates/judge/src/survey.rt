@@ -1,18 +1,21 @@
 // The pass over the records: what each is given by itself, and what they state.
 ghost use Rattle.std.specs.Prelude.{◌≡◌, not, eqb};
 ghost use Rattle.judge.specs.Marks.{Clear};
-ghost use Rattle.judge.specs.Survey.{few_places, cost_number, measure_number, lane_number, value_number, estimate_number, default_number, wait_number};
-ghost use Rattle.judge.specs.Survey.{headless, first_table, first_default, passed, with_head, with_lane, with_wait, with_factors, with_default, with_job};
+ghost use Rattle.judge.specs.Numbers.{earlier};
+ghost use Rattle.judge.specs.Survey.{few_places, cost_refusal, measure_refusal, lane_refusal, value_refusal, estimate_refusal, default_refusal};
+ghost use Rattle.judge.specs.Survey.{wait_refusal, headless, first_table, first_default, passed};
+ghost use Rattle.judge.specs.Survey.{with_head, with_lane, with_wait, with_factors, with_default, with_job};
 ghost use Rattle.judge.specs.Survey.{at_end, Counted, Noted, Surveyed};
 
-use crate::{marks, numbers};
+use crate::marks;
 use map::record::{Item, JobFields, PlaceValue, Read, Size};
-use map::{Map, number, record};
+use map::refusal::Refusal;
+use map::{Map, record};
 
 #[derive(Clone, Copy)]
 pub struct Survey {
-    // The least number that a record was given, NONE where none was.
-    pub number: u32,
+    // The refusal of the lowest number among those that the records were given.
+    pub refusal: Option<Refusal>,
     pub records: usize,
     // What the first record states, if it is a head; no places where they are more than a map can have.
     pub places: usize,
@@ -40,100 +43,117 @@ fn few_places(places: usize) -> usize
     places
 }
 
-fn cost_number(cost: u32) -> u32
-    ensures { result ≡ cost_number cost }
+fn cost_refusal(cost: u32) -> Option<Refusal>
+    ensures { result ≡ cost_refusal cost }
 {
     if cost == 0 {
-        return number::FREE_ARC;
+        return Some(Refusal::FreeArc);
     }
-    numbers::NONE
+    None
 }
 
-fn measure_number(length: u32, class: usize) -> u32
-    ensures { result ≡ measure_number length class }
+fn measure_refusal(length: u32, class: usize) -> Option<Refusal>
+    ensures { result ≡ measure_refusal length class }
 {
     if (length < 1) | (Map::LENGTH < length) | (Map::CLASS < class) {
-        return number::WRONG_MEASURE;
+        return Some(Refusal::WrongMeasure);
     }
-    numbers::NONE
+    None
 }
 
 // What an arc is given, whose cost or measure is given `own`.
-fn lane_number(first: bool, places: usize, from: usize, to: usize, own: u32) -> u32
-    ensures { result ≡ lane_number first places from to own }
+fn lane_refusal(
+    first: bool,
+    places: usize,
+    from: usize,
+    to: usize,
+    own: Option<Refusal>,
+) -> Option<Refusal>
+    ensures { result ≡ lane_refusal first places from to own }
 {
     if first {
-        return number::WRONG_HEAD;
+        return Some(Refusal::WrongHead);
     }
     if (places <= from) | (places <= to) {
-        return number::OUTSIDE_MAP;
+        return Some(Refusal::OutsideMap);
     }
     own
 }
 
 // What an estimate is given for its value, and for coming again: for its place, or as a default.
-fn value_number(value: u32, again: bool) -> u32
-    ensures { result ≡ value_number again value }
+fn value_refusal(value: u32, again: bool) -> Option<Refusal>
+    ensures { result ≡ value_refusal again value }
 {
     if Map::ESTIMATE < value {
-        return number::LARGE_ESTIMATE;
+        return Some(Refusal::LargeEstimate);
     }
     if again {
-        return number::TWO_ESTIMATES;
+        return Some(Refusal::TwoEstimates);
     }
-    numbers::NONE
+    None
 }
 
-fn estimate_number(first: bool, places: usize, e: PlaceValue, again: bool) -> u32
-    ensures { result ≡ estimate_number first places again e }
+fn estimate_refusal(first: bool, places: usize, e: PlaceValue, again: bool) -> Option<Refusal>
+    ensures { result ≡ estimate_refusal first places again e }
 {
     if first {
-        return number::WRONG_HEAD;
+        return Some(Refusal::WrongHead);
     }
     if places <= e.place {
-        return number::OUTSIDE_MAP;
+        return Some(Refusal::OutsideMap);
     }
-    value_number(e.value, again)
+    value_refusal(e.value, again)
 }
 
-fn default_number(first: bool, value: u32, again: bool) -> u32
-    ensures { result ≡ default_number first again value }
+fn default_refusal(first: bool, value: u32, again: bool) -> Option<Refusal>
+    ensures { result ≡ default_refusal first again value }
 {
     if first {
-        return number::WRONG_HEAD;
+        return Some(Refusal::WrongHead);
     }
-    value_number(value, again)
+    value_refusal(value, again)
 }
 
-fn wait_number(first: bool, places: usize, place: usize) -> u32
-    ensures { result ≡ wait_number first places place }
+fn wait_refusal(first: bool, places: usize, place: usize) -> Option<Refusal>
+    ensures { result ≡ wait_refusal first places place }
 {
     if first {
-        return number::WRONG_HEAD;
+        return Some(Refusal::WrongHead);
     }
     if places <= place {
-        return number::OUTSIDE_MAP;
+        return Some(Refusal::OutsideMap);
     }
-    numbers::NONE
+    None
 }
 
 // What a record is given that is no head and may stand anywhere but first.
-fn headless(first: bool) -> u32
+fn headless(first: bool) -> Option<Refusal>
     ensures { result ≡ headless first }
 {
     if first {
-        return number::WRONG_HEAD;
+        return Some(Refusal::WrongHead);
     }
-    numbers::NONE
+    None
 }
 
-// The survey with one record more, which is given this number.
-fn after(s: Survey, number: u32) -> Survey
+// Of two refusals the one of the lower number.
+fn earlier(a: Option<Refusal>, b: Option<Refusal>) -> Option<Refusal>
+    ensures { result ≡ earlier a b }
+{
+    match (a, b) {
+        (None, _) => b,
+        (Some(_), None) => a,
+        (Some(x), Some(y)) => { if y.number() < x.number() { b } else { a } }
+    }
+}
+
+// The survey with one record more, which is given this refusal or none.
+fn after(s: Survey, refusal: Option<Refusal>) -> Survey
     requires { Counted s }
-    ensures { result ≡ passed s number }
+    ensures { result ≡ passed s refusal }
 {
     let mut t = s;
-    t.number = numbers::least(s.number, number);
+    t.refusal = earlier(s.refusal, refusal);
     t.records += 1;
     t.job_last = false;
     t
@@ -144,19 +164,19 @@ fn with_head(s: Survey, size: Size) -> Survey
     ensures { result ≡ with_head s size }
 {
     if s.records != 0 {
-        return after(s, number::WRONG_HEAD);
+        return after(s, Some(Refusal::WrongHead));
     }
-    let mut t = after(s, numbers::NONE);
+    let mut t = after(s, None);
     t.places = few_places(size.places);
     t.arcs = size.arcs;
     t
 }
 
-fn with_lane(s: Survey, from: usize, to: usize, own: u32) -> Survey
+fn with_lane(s: Survey, from: usize, to: usize, own: Option<Refusal>) -> Survey
     requires { Counted s }
     ensures { result ≡ with_lane s from to own }
 {
-    let mut t = after(s, lane_number(s.records == 0, s.places, from, to, own));
+    let mut t = after(s, lane_refusal(s.records == 0, s.places, from, to, own));
     t.lanes += 1;
     t
 }
@@ -166,14 +186,14 @@ fn with_estimate(s: Survey, e: PlaceValue, marks: &mut [u8; Map::PLACES]) -> Sur
     ensures { Noted marks.old s (Item.Estimate e) marks.new result }
 {
     let again = marks::mark(marks, s.places, e.place, e.value);
-    after(s, estimate_number(s.records == 0, s.places, e, again))
+    after(s, estimate_refusal(s.records == 0, s.places, e, again))
 }
 
 fn with_wait(s: Survey, place: usize) -> Survey
     requires { Counted s }
     ensures { result ≡ with_wait s place }
 {
-    let mut t = after(s, wait_number(s.records == 0, s.places, place));
+    let mut t = after(s, wait_refusal(s.records == 0, s.places, place));
     t.waits += 1;
     t
 }
@@ -213,7 +233,7 @@ fn with_default(s: Survey, value: u32) -> Survey
     ensures { result ≡ with_default (not (eqb s.defaults 0)) s value }
 {
     let again = s.defaults != 0;
-    let mut t = after(s, default_number(s.records == 0, value, again));
+    let mut t = after(s, default_refusal(s.records == 0, value, again));
     t.defaults += 1;
     t.default = first_default(s.defaults, s.default, value);
     t
@@ -236,20 +256,20 @@ fn with_item(s: Survey, item: Item, marks: &mut [u8; Map::PLACES]) -> Survey
 {
     match item {
         Item::Head(size) => with_head(s, size),
-        Item::Lane(lane) => with_lane(s, lane.from, lane.to, cost_number(lane.cost)),
+        Item::Lane(lane) => with_lane(s, lane.from, lane.to, cost_refusal(lane.cost)),
         Item::Measured(lane) => with_lane(
             s,
             lane.from,
             lane.to,
-            measure_number(lane.length, lane.class),
+            measure_refusal(lane.length, lane.class),
         ),
         Item::Estimate(e) => with_estimate(s, e, marks),
         Item::Wait(w) => with_wait(s, w.place),
         Item::Factors(at) => with_factors(s, at),
         Item::Default(value) => with_default(s, value),
         Item::Job(job) => with_job(s, job),
-        Item::Misfit => after(s, number::WRONG_LENGTH),
-        Item::Other => after(s, number::UNKNOWN_KIND),
+        Item::Misfit => after(s, Some(Refusal::WrongLength)),
+        Item::Other => after(s, Some(Refusal::UnknownKind)),
     }
 }
 
@@ -261,7 +281,7 @@ fn ended(s: Survey) -> Survey
         return s;
     }
     let mut t = s;
-    t.number = number::WRONG_HEAD;
+    t.refusal = Some(Refusal::WrongHead);
     t
 }
 
@@ -270,7 +290,7 @@ pub fn of(input: &[u8], marks: &mut [u8; Map::PLACES]) -> Survey
     ensures { Surveyed input.now marks.new result }
 {
     let mut s = Survey {
-        number: numbers::NONE,
+        refusal: None,
         records: 0,
         places: 0,
         arcs: 0,
@@ -298,7 +318,7 @@ pub fn of(input: &[u8], marks: &mut [u8; Map::PLACES]) -> Survey
                 at = record::end_of(r, item);
             }
             Read::Broken => {
-                s.number = number::BROKEN;
+                s.refusal = Some(Refusal::Broken);
                 return s;
             }
             Read::End => return ended(s),

@@ -1,5 +1,6 @@
 -- Laws of a map's size, and of the records of an input.
 pub mod Sizes
+pub mod RefusalLaws
 pub mod Parts
 pub mod Records
 pub mod Reading

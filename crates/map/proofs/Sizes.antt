@@ -6,12 +6,8 @@ use Prim.Native.Nat.{ℕ, ◌≤◌}
 use native.Mathlib.Omega.{arith}
 use lib.Dec.{ltb}
 use borrow.Author.Tests.{ltb-false}
-use types.Run.{OneOf}
-use denote.Enum.Declared.{tag_of}
-use Rattle.map.specs.contracts.NewMap.{the_type}
+use Rattle.std.specs.Prelude.{Option, Some, None}
 use Rattle.map.specs.declared.Map.{Map}
-use Rattle.map.specs.declared.NewMap.{NewMap}
-use Rattle.map.specs.declared.NewMap.TheVariants.{Within, OutOfRange}
 use Rattle.map.specs.Sizes.{out_of_range, map_of}
 use Rattle.model.specs.Limits.{max_places, max_arcs}
 use Rattle.model.proofs.Lists.{neither}
@@ -24,23 +20,23 @@ pub record WithinLimits (n m : ℕ) (map : Map) : Type 0 where
   pub few_arcs : map.arcs ≤ max_arcs
 
 module _ (n m : ℕ) where
-  pub none-given : out_of_range n m ≡ true → OutOfRange ≡ map_of n m
+  pub none-given : out_of_range n m ≡ true → None ≡ map_of n m
   unfolding map_of
   none-given e = rw e
 
-  pub map-given : out_of_range n m ≡ false → Within (record { places = n; arcs = m }) ≡ map_of n m
+  pub map-given : out_of_range n m ≡ false → Some (record { places = n; arcs = m }) ≡ map_of n m
   unfolding map_of
   map-given e = rw e
 
   -- a map that is given has the numbers, which are within the limits
-  pub within_limits : (x : NewMap) (map : Map) → x ≡ map_of n m → x ≡ Within map → WithinLimits n m map
+  pub within_limits : (x : Option Map) (map : Map) → x ≡ map_of n m → x ≡ Some map → WithinLimits n m map
   unfolding map_of
   within_limits x map made is = go (out_of_range n m) refl (sym is ∙ made)
     where
       sizes : Map
       sizes = record { places = n; arcs = m }
 
-      go : (t : Bool) → out_of_range n m ≡ t → Within map ≡ cond t OutOfRange (Within sizes) → WithinLimits n m map
+      go : (t : Bool) → out_of_range n m ≡ t → Some map ≡ cond t None (Some sizes) → WithinLimits n m map
       go true e w = let z : ◌≡◌ {A = ℕ} 0 1 = cc in absurd (omega arith)
       go false e w =
           let same : sizes ≡ map = cc in
@@ -50,10 +46,13 @@ module _ (n m : ℕ) where
           rw (← same) (record { in_range = e; places = refl; arcs = refl; few_places_lem = few_places_lem; few_arcs = few_arcs })
 
   -- where none is given, the numbers are out of range
-  pub no_map : OutOfRange ≡ map_of n m → out_of_range n m ≡ true
+  pub no_map : None ≡ map_of n m → out_of_range n m ≡ true
   unfolding map_of
   no_map made = go (out_of_range n m) made
     where
-      go : (t : Bool) → OutOfRange ≡ cond t OutOfRange (Within (record { places = n; arcs = m })) → t ≡ true
+      sizes : Map
+      sizes = record { places = n; arcs = m }
+
+      go : (t : Bool) → ◌≡◌ {A = Option Map} None (cond t None (Some sizes)) → t ≡ true
       go true e = refl
       go false e = let z : ◌≡◌ {A = ℕ} 0 1 = cc in absurd (omega arith)

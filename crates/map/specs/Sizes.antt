@@ -1,7 +1,6 @@
 -- Which numbers of places and arcs are a map's size, and what a map of that size asks to be lent.
-use Rattle.std.specs.Prelude.{Bool, cond, ◌||◌, ℕ, ltb}
-use Rattle.map.specs.declared.NewMap.{NewMap}
-use Rattle.map.specs.declared.NewMap.TheVariants.{Within, OutOfRange}
+use Rattle.std.specs.Prelude.{Bool, cond, ◌||◌, ℕ, ltb, Option, Some, None}
+use Rattle.map.specs.declared.Map.{Map}
 use Rattle.map.specs.declared.Site.{Site}
 use Rattle.model.specs.Items.{Size}
 use Rattle.model.specs.Refusals.{work_words, sheet_bytes}
@@ -12,8 +11,8 @@ abbrev pub out_of_range : ℕ → ℕ → Bool
 out_of_range n m = ltb n 1 || ltb max_places n || ltb max_arcs m
 
 -- the map of n places and m arcs, where the limits allow it
-unfoldable pub map_of : ℕ → ℕ → NewMap
-map_of n m = cond (out_of_range n m) OutOfRange (Within (record { places = n; arcs = m }))
+unfoldable pub map_of : ℕ → ℕ → Option Map
+map_of n m = cond (out_of_range n m) None (Some (record { places = n; arcs = m }))
 
 -- a site's size in the definitions' terms; the words and bytes that document 01 asks for it
 abbrev pub size_of : Site → Size

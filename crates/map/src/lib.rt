@@ -3,6 +3,7 @@
 
 pub mod number;
 pub mod record;
+pub mod refusal;
 pub mod sheet;
 
 ghost use Rattle.std.specs.Prelude.{◌≡◌, ◌≤◌};
@@ -15,12 +16,6 @@ ghost use Rattle.model.specs.Stated.{fixed_factors};
 pub struct Map {
     pub places: usize,
     pub arcs: usize,
-}
-
-#[derive(Clone, Copy)]
-pub enum NewMap {
-    Within(Map),
-    OutOfRange,
 }
 
 impl Map {
@@ -50,13 +45,13 @@ impl Map {
     pub const SHEET_BYTES: usize = 10 + 2 * Map::PLACES;
 
     // A map has a place or more, and no more places and arcs than the limits allow.
-    pub fn new(places: usize, arcs: usize) -> NewMap
+    pub fn new(places: usize, arcs: usize) -> Option<Map>
         ensures { result ≡ map_of places arcs }
     {
         if (places < 1) | (Map::PLACES < places) | (Map::ARCS < arcs) {
-            return NewMap::OutOfRange;
+            return None;
         }
-        NewMap::Within(Map { places, arcs })
+        Some(Map { places, arcs })
     }
 
     // The table of factors of a map that states no other.

@@ -161,7 +161,7 @@ pub fn read_at(input: &[u8], at: usize) -> Read
     if left < HEADER {
         return Read::Broken;
     }
-    let len = area::index(area::u16_at(input, at));
+    let len = usize::from(area::u16_at(input, at));
     if left - HEADER < len {
         return Read::Broken;
     }
@@ -177,8 +177,8 @@ fn head_at(input: &[u8], at: usize) -> Size
     ensures { result ≡ size_at input.now at }
 {
     Size {
-        places: area::index(area::u16_at(input, at + PLACES)),
-        arcs: area::index(area::u16_at(input, at + ARCS)),
+        places: usize::from(area::u16_at(input, at + PLACES)),
+        arcs: usize::from(area::u16_at(input, at + ARCS)),
     }
 }
 
@@ -187,9 +187,9 @@ fn lane_at(input: &[u8], at: usize) -> Lane
     ensures { lane_meant result ≡ lane_of (drop at input.now) }
 {
     Lane {
-        from: area::index(area::u16_at(input, at + FROM)),
-        to: area::index(area::u16_at(input, at + TO)),
-        cost: area::wide16(area::u16_at(input, at + COST)),
+        from: usize::from(area::u16_at(input, at + FROM)),
+        to: usize::from(area::u16_at(input, at + TO)),
+        cost: u32::from(area::u16_at(input, at + COST)),
     }
 }
 
@@ -198,10 +198,10 @@ fn measured_at(input: &[u8], at: usize) -> MeasuredLane
     ensures { measured_meant result ≡ measured_of (drop at input.now) }
 {
     MeasuredLane {
-        from: area::index(area::u16_at(input, at + FROM)),
-        to: area::index(area::u16_at(input, at + TO)),
-        length: area::wide16(area::u16_at(input, at + LENGTH)),
-        class: area::index(area::u16_at(input, at + CLASS)),
+        from: usize::from(area::u16_at(input, at + FROM)),
+        to: usize::from(area::u16_at(input, at + TO)),
+        length: u32::from(area::u16_at(input, at + LENGTH)),
+        class: usize::from(area::u16_at(input, at + CLASS)),
     }
 }
 
@@ -210,7 +210,7 @@ fn estimate_at(input: &[u8], at: usize) -> PlaceValue
     ensures { result ≡ estimate_body_at input.now at }
 {
     PlaceValue {
-        place: area::index(area::u16_at(input, at + PLACE)),
+        place: usize::from(area::u16_at(input, at + PLACE)),
         value: area::u32_at(input, at + VALUE),
     }
 }
@@ -220,8 +220,8 @@ fn wait_at(input: &[u8], at: usize) -> PlaceValue
     ensures { result ≡ wait_body_at input.now at }
 {
     PlaceValue {
-        place: area::index(area::u16_at(input, at + PLACE)),
-        value: area::wide16(area::u16_at(input, at + VALUE)),
+        place: usize::from(area::u16_at(input, at + PLACE)),
+        value: u32::from(area::u16_at(input, at + VALUE)),
     }
 }
 
@@ -233,12 +233,12 @@ fn job_at(input: &[u8], at: usize, len: usize) -> Item
     if len < GOALS {
         return Item::Misfit;
     }
-    let goals = area::index(area::u16_at(input, at + GOAL_COUNT));
+    let goals = usize::from(area::u16_at(input, at + GOAL_COUNT));
     if len != GOALS + 2 * goals {
         return Item::Misfit;
     }
     Item::Job(JobFields {
-        start: area::wide16(area::u16_at(input, at + START)),
+        start: u32::from(area::u16_at(input, at + START)),
         allowance: area::u32_at(input, at + ALLOWANCE),
         goals,
         goals_at: at + GOALS,
@@ -321,10 +321,8 @@ fn factors_at(input: &[u8], at: usize) -> [u32; Map::CLASS + 1]
     ensures { result ≡ u16s 8 input.now at }
 {
     let mut factors = [0u32; Map::CLASS + 1];
-    let mut class = 0;
-    while class < Map::CLASS + 1 {
-        factors[class] = area::wide16(area::u16_at(input, at + class + class));
-        class += 1;
+    for class in 0..Map::CLASS + 1 {
+        factors[class] = u32::from(area::u16_at(input, at + class + class));
     }
     factors
 }

@@ -5,4 +5,4 @@ use Rattle.judge.proofs.survey.with_default.Goals as goal
 
 pub returns : goal.returns
 unfolding with_default
-returns c = rw (c.after-t.ensures, c.default_number.ensures, c.first_default.ensures) refl
+returns c = rw (c.after-t.ensures, c.default_refusal.ensures, c.first_default.ensures) refl

@@ -7,4 +7,4 @@ pub returns : goal.returns
 unfolding noted again_in marks_by
 returns c =
     let mark = c.mark-again.ensures in
-    record { survey = c.after.ensures ∙ rw (c.estimate_number.ensures, mark.before); mark = mark.after }
+    record { survey = c.after.ensures ∙ rw (c.estimate_refusal.ensures, mark.before); mark = mark.after }

@@ -10,13 +10,13 @@ returns-in-Head c = rw c.in-Head.is (record { survey = c.with_head.ensures; mark
 pub returns-in-Lane : goal.returns-in-Lane
 unfolding noted marks_by
 returns-in-Lane c =
-    let own = c.cost_number.ensures in
+    let own = c.cost_refusal.ensures in
     rw c.in-Lane.is (record { survey = rw own at c.with_lane.ensures; mark = refl })
 
 pub returns-in-Measured : goal.returns-in-Measured
 unfolding noted marks_by
 returns-in-Measured c =
-    let own = c.measure_number.ensures in
+    let own = c.measure_refusal.ensures in
     rw c.in-Measured.is (record { survey = rw own at c.with_lane-in-Measured.ensures; mark = refl })
 
 pub returns-in-Wait : goal.returns-in-Wait

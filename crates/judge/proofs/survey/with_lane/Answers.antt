@@ -4,4 +4,4 @@ use Rattle.judge.proofs.survey.with_lane.Goals as goal
 
 pub returns : goal.returns
 unfolding with_lane
-returns c = rw (c.after-t.ensures, c.lane_number.ensures)
+returns c = rw (c.after-t.ensures, c.lane_refusal.ensures)

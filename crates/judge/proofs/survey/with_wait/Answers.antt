@@ -4,4 +4,4 @@ use Rattle.judge.proofs.survey.with_wait.Goals as goal
 
 pub returns : goal.returns
 unfolding with_wait
-returns c = rw (c.after-t.ensures, c.wait_number.ensures)
+returns c = rw (c.after-t.ensures, c.wait_refusal.ensures)

@@ -5,5 +5,5 @@ use Rattle.map.proofs.record.head_at.Goals as goal
 
 pub returns : goal.returns
 returns c =
-    let places = c.index.ensures.0 ∙ c.u16_at.ensures in
-    rw (places, c.index-2.ensures.0 ∙ c.u16_at-2.ensures) (sym (size_at_lem _ _))
+    let places = c.from.ensures ∙ c.u16_at.ensures in
+    rw (places, c.from-2.ensures ∙ c.u16_at-2.ensures) (sym (size_at_lem _ _))

@@ -10,12 +10,12 @@ returns-then-len-lt-GOALS c = rw job_at_lem (simp (lt-ltb _ _ c.if-len-lt-GOALS.
 
 pub returns-then-len-goals : goal.returns-then-len-goals
 returns-then-len-goals c =
-    let goals : c.index-goals.result ≡ u16 _ _ = c.index-goals.ensures.0 ∙ c.u16_at.ensures in
+    let goals : c.from-goals.result ≡ u16 _ _ = c.from-goals.ensures ∙ c.u16_at.ensures in
     rw job_at_lem (simp (le-ltb _ _ c.if-len-lt-GOALS.false, ← goals, ne_eqb _ _ c.if-len-goals.true))
 
 pub returns : goal.returns
 returns c =
-    let goals : c.index-goals.result ≡ u16 _ _ = c.index-goals.ensures.0 ∙ c.u16_at.ensures in
+    let goals : c.from-goals.result ≡ u16 _ _ = c.from-goals.ensures ∙ c.u16_at.ensures in
     let long = le-ltb _ _ c.if-len-lt-GOALS.false in
-    let start = c.wide16.ensures.0 ∙ c.u16_at-2.ensures in
+    let start = c.from.ensures ∙ c.u16_at-2.ensures in
     rw job_at_lem (simp (long, ← goals, eq-eqb _ _ c.if-len-goals.false, start, c.u32_at.ensures))

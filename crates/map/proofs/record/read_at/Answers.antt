@@ -16,13 +16,13 @@ returns-then-left-lt-HEADER c = simp (ne_eqb _ _ c.if-left-eq0.false, lt-ltb _ _
 pub returns-then-left-len : goal.returns-then-left-len
 unfolding read_at
 returns-then-left-len c =
-    let len : c.index-len.result ≡ u16 _ _ = c.index-len.ensures.0 ∙ c.u16_at.ensures in
+    let len : c.from-len.result ≡ u16 _ _ = c.from-len.ensures ∙ c.u16_at.ensures in
     simp (ne_eqb _ _ c.if-left-eq0.false, le-ltb _ _ c.if-left-lt-HEADER.false, ← len, lt-ltb _ _ c.if-left-len.true)
 
 pub returns : goal.returns
 unfolding read_at
 returns c =
-    let len : c.index-len.result ≡ u16 _ _ = c.index-len.ensures.0 ∙ c.u16_at.ensures in
+    let len : c.from-len.result ≡ u16 _ _ = c.from-len.ensures ∙ c.u16_at.ensures in
     simp (
       ne_eqb _ _ c.if-left-eq0.false,
       le-ltb _ _ c.if-left-lt-HEADER.false,

@@ -5,5 +5,5 @@ use Rattle.map.proofs.record.wait_at.Goals as goal
 
 pub returns : goal.returns
 returns c =
-    let place = c.index.ensures.0 ∙ c.u16_at.ensures in
-    rw (place, c.wide16.ensures.0 ∙ c.u16_at-2.ensures) (sym (wait_at_lem _ _))
+    let place = c.from.ensures ∙ c.u16_at.ensures in
+    rw (place, c.from-2.ensures ∙ c.u16_at-2.ensures) (sym (wait_at_lem _ _))
