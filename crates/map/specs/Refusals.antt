@@ -1,5 +1,5 @@
 -- The papers' number of each refusal.
-use Rattle.std.specs.Prelude.{ℕ}
+use Rattle.std.specs.Prelude.{ℕ, Result, Ok, Err}
 use Rattle.map.specs.declared.refusal.Refusal.{Refusal}
 use Rattle.map.specs.declared.refusal.Refusal.TheVariants.{Broken, UnknownKind, WrongLength, WrongHead, WrongSize, OutsideMap, FreeArc}
 use Rattle.map.specs.declared.refusal.Refusal.TheVariants.{LargeEstimate, TwoEstimates, WrongJob, JobOutsideMap, WrongGoals, GoalEstimate}
@@ -24,3 +24,8 @@ number_of ShortSheet = 15
 number_of WrongMeasure = 20
 number_of WrongWait = 21
 number_of WrongFactors = 22
+
+-- 0 is acceptance
+abbrev pub refusal_number : {A : Type 0} → Result A Refusal → ℕ
+refusal_number (Ok x) = 0
+refusal_number (Err r) = number_of r

@@ -5,13 +5,13 @@ ghost use Rattle.std.specs.Prelude.{◌≡◌, ◌≤◌, ◌<◌, ◌^◌};
 ghost use Rattle.model.specs.Answer.{answer};
 ghost use Rattle.model.specs.Limits.{max_places, max_arcs};
 ghost use Rattle.answer.specs.Numbers.{answer_of};
-ghost use Rattle.judge.specs.Judge.{Passes};
+ghost use Rattle.map.specs.Refusals.{refusal_number};
 ghost use Rattle.load.specs.Loaded.{Loadable};
 ghost use Rattle.map_writer.specs.Call.{Wrote, WroteFor};
-ghost use Rattle.map_writer.specs.Steps.{HasRoom, room_number, InOrder};
+ghost use Rattle.map_writer.specs.Steps.{HasRoom, room_number, Ready, InOrder};
 
 use answer::Answer;
-use judge::Judgement;
+use map::refusal::Refusal;
 use map::{Job, Site, number, record};
 
 // Puts the lanes of an accepted input in order. At goals the estimate is the default, which is not written.
@@ -55,39 +55,35 @@ fn accepted(input: &[u8], job: Job, work: &mut [u32], output: &mut [u8]) -> Answ
     wrote(bytes)
 }
 
-// 14 or 15, or 0 where both areas are large enough: the output area is asked to be as long as the input.
-fn room(site: Site, input: usize, words: usize, bytes: usize) -> u32
+// 14 or 15, where an area is too short for the map: the output area is asked to be as long as the input.
+fn room(site: Site, input: usize, words: usize, bytes: usize) -> Result<(), Refusal>
     requires { (site.places ≤ max_places) × (site.arcs ≤ max_arcs) }
-    ensures { result ≡ room_number site input words bytes }
+    ensures { refusal_number result ≡ room_number site input words bytes }
 {
     if words < site.words() {
-        return number::SHORT_WORK;
+        return Err(Refusal::ShortWork);
     }
     if bytes < input {
-        return number::SHORT_SHEET;
+        return Err(Refusal::ShortSheet);
     }
-    0
+    Ok(())
 }
 
-// An input that none of its own conditions turns down, with what is lent to the call.
-fn with_room(input: &[u8], job: Job, work: &mut [u32], output: &mut [u8]) -> Answer
-    requires { Passes input.now job }
-    ensures { Wrote input.now work.old output.old result work.new output.new }
+// What an input states that none of its own conditions turns down, where areas of so many words and bytes are large enough.
+fn ready(input: &[u8], words: usize, bytes: usize) -> Result<Job, Refusal>
+    ensures { Ready input.now words bytes result }
 {
-    let short = room(job.site, input.len(), work.len(), output.len());
-    if short != 0 {
-        return answer::refused(short);
-    }
-    accepted(input, job, work, output)
+    let job = judge::judge(input)?;
+    room(job.site, input.len(), words, bytes)?;
+    Ok(job)
 }
 
 pub fn write(input: &[u8], work: &mut [u32], output: &mut [u8]) -> Answer
     ensures { Wrote input.now work.old output.old result work.new output.new }
 {
-    let judgement = judge::judge(input);
-    match judgement {
-        Judgement::Refused(number) => answer::refused(number),
-        Judgement::Accepted(job) => with_room(input, job, work, output),
+    match ready(input, work.len(), output.len()) {
+        Ok(job) => accepted(input, job, work, output),
+        Err(refusal) => answer::refused(refusal.number()),
     }
 }
 

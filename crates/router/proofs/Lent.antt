@@ -12,7 +12,7 @@ use Rattle.judge.specs.Judge.{Passes}
 use Rattle.answer.specs.Numbers.{answer_of}
 use Rattle.answer.specs.declared.Answer.{Answer}
 use Rattle.router.specs.Call.{Routed}
-use Rattle.router.specs.Steps.{HasRoom, room_number}
+use Rattle.router.specs.Steps.{room_number}
 
 -- a refused call: its number and zeros, and both areas as they were
 pub refusal_routed : (input work sheet : List ℕ) (n : ℕ) (r : Answer) → n ≡ refusal (frame input) (length work) (length sheet) → (n ≡ 0 → ⊥)
@@ -24,13 +24,6 @@ refusal_routed input work sheet (suc n) r e h is = record { result = rw (← e, 
 -- an input that passes
 module _ {input : List ℕ} {j : Job} (p : Passes input j) where
   -- the call's number is that of the room
-  room_given : (work sheet : List ℕ) → refusal (frame input) (length work) (length sheet) ≡ room_number j.site (length work) (length sheet)
+  pub room_given : (words bytes : ℕ) → refusal (frame input) words bytes ≡ room_number j.site words bytes
   unfolding first_of
-  room_given work sheet = rw (refusal_parts (frame input) (length work) (length sheet), p.number, p.states.places, p.states.arcs)
-
-  pub short_routed : {work sheet : List ℕ} {n : ℕ} {r : Answer} → n ≡ room_number j.site (length work) (length sheet) → (n ≡ 0 → ⊥)
-      → answer_of r ≡ answer n 0 0 0 0 0 0 → Routed input work sheet r work sheet
-  short_routed {work} {sheet} {n} {r} e h is = refusal_routed input work sheet n r (e ∙ sym (room_given work sheet)) h is
-
-  pub has_room : {work sheet : List ℕ} {n : ℕ} → n ≡ room_number j.site (length work) (length sheet) → n ≡ 0 → HasRoom input j work sheet
-  has_room {work} {sheet} e z = record { accepted = room_given work sheet ∙ sym e ∙ z; states = p.states }
+  room_given words bytes = rw (refusal_parts (frame input) words bytes, p.number, p.states.places, p.states.arcs)

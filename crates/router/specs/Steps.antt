@@ -1,12 +1,16 @@
 -- What the steps of the call ask and leave: an input that passes is given room, loaded and searched; the verdict is concluded by its sheet, zeros and
 -- numbers.
-use Rattle.std.specs.Prelude.{◌≡◌, List, ℕ, ◌≤◌, length}
+use Rattle.std.specs.Prelude as std
+use Rattle.std.specs.Prelude.{◌≡◌, List, ℕ, ◌≤◌, length, Ok}
 use Rattle.map.specs.Sizes.{size_of, words_of}
 use Rattle.map.specs.Jobs.{States}
 use Rattle.map.specs.declared.Job.{Job}
 use Rattle.map.specs.declared.Site.{Site}
+use Rattle.map.specs.declared.refusal.Refusal.{Refusal}
+use Rattle.map.specs.Refusals.{refusal_number}
+use Rattle.model.specs.Framing.{frame}
 use Rattle.model.specs.Limits.{max_places, max_arcs}
-use Rattle.model.specs.Refusals.{room_rows, first_that_holds, Accepted}
+use Rattle.model.specs.Refusals.{room_rows, first_that_holds, refusal, Accepted}
 use Rattle.model.specs.Endings.{Ending}
 use Rattle.model.specs.Answer as model
 use Rattle.model.specs.Answer.{Result, answer, sheet_of, over_front, ended_with}
@@ -21,6 +25,11 @@ use Rattle.answer.specs.declared.Answer.{Answer}
 pub record HasRoom (input : List ℕ) (j : Job) (work sheet : List ℕ) : Type 0 where
   pub accepted : Accepted input (length work) (length sheet)
   pub states : States input j
+
+-- the job of an accepted input and lent areas, or the refusal
+pub record Ready (input : List ℕ) (words bytes : ℕ) (r : std.Result Job Refusal) : Type 0 where
+  pub number : refusal_number r ≡ refusal (frame input) words bytes
+  pub states : (j : Job) → r ≡ Ok j → States input j
 
 -- the number that is given for too little room: 14, 15, or 0 for none
 abbrev pub room_number : Site → (words bytes : ℕ) → ℕ

@@ -4,12 +4,12 @@
 ghost use Rattle.std.specs.Prelude.{◌≡◌, ◌≤◌};
 ghost use Rattle.model.specs.Limits.{max_places, max_arcs};
 ghost use Rattle.answer.specs.Numbers.{answer_of};
-ghost use Rattle.judge.specs.Judge.{Passes};
+ghost use Rattle.map.specs.Refusals.{refusal_number};
 ghost use Rattle.router.specs.Call.{Routed, RoutedFor};
-ghost use Rattle.router.specs.Steps.{HasRoom, room_number, Writable, Written, numbers_of, Concludable, Concluded};
+ghost use Rattle.router.specs.Steps.{HasRoom, room_number, Ready, Writable, Written, numbers_of, Concludable, Concluded};
 
 use answer::Answer;
-use judge::Judgement;
+use map::refusal::Refusal;
 use map::{Job, Site, number};
 use search::Verdict;
 
@@ -81,39 +81,35 @@ fn accepted(input: &[u8], job: Job, work: &mut [u32], sheet: &mut [u8]) -> Answe
     conclude(verdict, site, work, sheet)
 }
 
-// 14 or 15, or 0 where both areas are large enough.
-fn room(site: Site, words: usize, bytes: usize) -> u32
+// 14 or 15, where an area is too short for the map.
+fn room(site: Site, words: usize, bytes: usize) -> Result<(), Refusal>
     requires { (site.places ≤ max_places) × (site.arcs ≤ max_arcs) }
-    ensures { result ≡ room_number site words bytes }
+    ensures { refusal_number result ≡ room_number site words bytes }
 {
     if words < site.words() {
-        return number::SHORT_WORK;
+        return Err(Refusal::ShortWork);
     }
     if bytes < site.bytes() {
-        return number::SHORT_SHEET;
+        return Err(Refusal::ShortSheet);
     }
-    0
+    Ok(())
 }
 
-// An input that none of its own conditions turns down, with what is lent to the call.
-fn with_room(input: &[u8], job: Job, work: &mut [u32], sheet: &mut [u8]) -> Answer
-    requires { Passes input.now job }
-    ensures { Routed input.now work.old sheet.old result work.new sheet.new }
+// What an input states that none of its own conditions turns down, where areas of so many words and bytes are large enough.
+fn ready(input: &[u8], words: usize, bytes: usize) -> Result<Job, Refusal>
+    ensures { Ready input.now words bytes result }
 {
-    let short = room(job.site, work.len(), sheet.len());
-    if short != 0 {
-        return answer::refused(short);
-    }
-    accepted(input, job, work, sheet)
+    let job = judge::judge(input)?;
+    room(job.site, words, bytes)?;
+    Ok(job)
 }
 
 pub fn route(input: &[u8], work: &mut [u32], sheet: &mut [u8]) -> Answer
     ensures { Routed input.now work.old sheet.old result work.new sheet.new }
 {
-    let judgement = judge::judge(input);
-    match judgement {
-        Judgement::Refused(number) => answer::refused(number),
-        Judgement::Accepted(job) => with_room(input, job, work, sheet),
+    match ready(input, work.len(), sheet.len()) {
+        Ok(job) => accepted(input, job, work, sheet),
+        Err(refusal) => answer::refused(refusal.number()),
     }
 }
 

@@ -1,14 +1,9 @@
--- A refusal leaves both areas as they were; an input that passes is as its judgement states.
-use Rattle.judge.proofs.Passing.{passes}
-use Rattle.map_writer.proofs.Lent.{refused_wrote}
+-- A refusal leaves both areas as they were; a job that is ready is as its judgement states.
+use Rattle.map_writer.proofs.Lent.{refused_wrote, has_room}
 use Rattle.map_writer.proofs.write.Goals as goal
 
-pub with_room-requires : goal.with_room-requires
-with_room-requires c =
-    passes c.judge-judgement.ensures c.in-Accepted.is
+pub accepted-requires : goal.accepted-requires
+accepted-requires c = has_room c.ready.ensures c.in-Ok.is
 
-pub returns-in-Refused : goal.returns-in-Refused
-returns-in-Refused c =
-    let judged = c.judge-judgement.ensures in
-    let is = c.in-Refused.is in
-    refused_wrote judged _ _ is (judged.some_number _ is) c.refused.ensures
+pub returns-in-Err : goal.returns-in-Err
+returns-in-Err c = refused_wrote c.ready.ensures c.in-Err.is (rw c.number.ensures at c.refused.ensures)
