@@ -104,8 +104,8 @@ abbrev pub NotingKept : Stated → List Item → List ℕ × Bool → Type 0
 NotingKept s is kept = Noting s is kept.0 kept.1
 
 -- the walk over an input has come to the item i
-module _ {input : List ℕ} {at : ℕ} {r : declared.Record.Record} {i : declared.Item.Item} {kept : List ℕ × Bool} (fits : Fitting input)
-    (comes : Comes (NotingKept (stated_in input)) input at kept r i) where
+module _ {input : List ℕ} {kept : List ℕ × Bool} {i : declared.Item.Item} {rest : List Item} (fits : Fitting input)
+    (comes : Comes (NotingKept (stated_in input)) input kept i rest) where
   pub noting_can : CanNote (of_map i) kept.0
   unfolding wait_in
   noting_can =
@@ -120,7 +120,7 @@ module _ {input : List ℕ} {at : ℕ} {r : declared.Record.Record} {i : declare
       })
 
   pub noting_step : {again : Bool} {noted : List ℕ} → NotedItem (of_map i) kept.0 again noted
-      → NotingKept (stated_in input) (items (frame (drop r.end input)).records) (noted, kept.1 || again)
+      → NotingKept (stated_in input) rest (noted, kept.1 || again)
   unfolding noted_by note_again
   noting_step step =
       let after = of_map_lem input (λ k. noted_by k kept.0 ≡ noted_by (meant input i) kept.0) (λ j k e. e) (λ fs gs e. e) i refl in
@@ -204,7 +204,7 @@ module _ {factors input noted : List ℕ} (can : Weighable factors input noted) 
       omega (arith, can.notes v, noted_wait ws v)
 
   -- the walk over an input has come to the item i
-  module _ {at : ℕ} {r : declared.Record.Record} {i : declared.Item.Item} {dear : Bool} (comes : Comes (Weighing st) input at dear r i) where
+  module _ {dear : Bool} {i : declared.Item.Item} {rest : List Item} (comes : Comes (Weighing st) input dear i rest) where
     pub weighing_can : CanWeigh factors (of_map i) noted
     unfolding lane_in
     weighing_can =
@@ -221,12 +221,11 @@ module _ {factors input noted : List ℕ} (can : Weighable factors input noted) 
           cost = λ l is. rw can.stated_factors (can.fits.cost l (stated-lane l is));
         })
 
-    pub weighing_step : {found : Bool} → found ≡ too_dear factors noted (of_map i)
-        → Weighing st (items (frame (drop r.end input)).records) (dear || found)
+    pub weighing_step : {found : Bool} → found ≡ too_dear factors noted (of_map i) → Weighing st rest (dear || found)
     unfolding too_dear
     weighing_step is =
         let same = of_map_lem input (λ k. too_dear factors noted k ≡ too_dear factors noted (meant input i)) (λ j k e. e) (λ fs gs e. e) i refl in
-        rw (is ∙ same) (one_weighed (items (frame (drop r.end input)).records) dear (meant input i) comes.first)
+        rw (is ∙ same) (one_weighed rest dear (meant input i) comes.first)
 
 -- at the first item, and after the last
 pub weighing_begins : (input : List ℕ) → Weighing (stated_in input) (items (frame input).records) false

@@ -8,7 +8,8 @@ ghost use Rattle.map.specs.Items.{of_map};
 ghost use Rattle.judge.specs.Marks.{Clear};
 ghost use Rattle.judge.specs.Waits.{wait_noted, exceeds, too_dear, any_too_dear, Fitting, CanNote, NotedItem, NotedAll, CanWeigh, Weighable};
 
-use map::record::{Item, Read};
+use map::record::Item;
+use map::walk::Items;
 use map::{Map, record};
 
 // The wait that is noted of a place: 0 where it has none, otherwise one less than what is noted, since a wait of 0 is one too.
@@ -43,16 +44,11 @@ fn note_all(input: &[u8], noted: &mut [u32; Map::PLACES]) -> bool
     ensures { NotedAll (stated_in input.now) result noted.new }
 {
     let mut twice = false;
-    let mut at: usize = 0;
-    loop {
-        let Read::Whole(r) = record::read_at(input, at) else {
-            return twice;
-        };
-        let item = record::fitting_item(input, r);
+    for item in Items::of(input) {
         let again = note(item, noted);
         twice = twice | again;
-        at = record::end_of(r, item);
     }
+    twice
 }
 
 // A lane of this cost by itself costs more with its wait than an arc may.
@@ -87,15 +83,10 @@ fn any_too_dear(input: &[u8], factors: &[u32; Map::CLASS + 1], noted: &[u32; Map
     ensures { result ≡ any_too_dear (stated_in input.now) }
 {
     let mut dear = false;
-    let mut at: usize = 0;
-    loop {
-        let Read::Whole(r) = record::read_at(input, at) else {
-            return dear;
-        };
-        let item = record::fitting_item(input, r);
+    for item in Items::of(input) {
         dear = dear | too_dear(item, factors, noted);
-        at = record::end_of(r, item);
     }
+    dear
 }
 
 // The input has so many waits, and these are its factors.

@@ -1,74 +1,42 @@
 -- Walking the records of an input: how a walk begins, comes to what a record says, goes on and ends. Assumes nothing.
-use mathlib.Core.Path.{◌≡◌, refl}
-use mathlib.Core.Bool.{false}
+use mathlib.Core.Path.{◌≡◌, refl, ◌∙◌}
 use mathlib.Core.List.{List, [], ◌∷◌, Memᴰ}
-use Prim.Native.Nat.{ℕ, ◌-◌, ◌<◌}
-use native.Mathlib.Omega.{arith}
-use lib.ListN.{length, drop}
-use types.Run.{OneOf}
-use denote.Enum.Declared.{tag_of}
-use Rattle.map.specs.contracts.record.Read.{the_type}
-use Rattle.map.specs.declared.record.Record.{Record}
-use Rattle.map.specs.declared.record.Read.{Read}
-use Rattle.map.specs.declared.record.Read.TheVariants.{Whole}
+use Prim.Native.Nat.{ℕ}
+use Rattle.std.specs.Prelude.{Option, None, Some}
 use Rattle.map.specs.declared.record as declared
 use Rattle.map.specs.declared.record.Item.{Item}
 use Rattle.map.specs.declared.record.Item.TheVariants as variants
 use Rattle.model.specs.Framing.{frame}
 use Rattle.model.specs.Items as model
 use Rattle.model.specs.Items.{items}
-use Rattle.model.specs.Refusals.{wrong_length}
-use Rattle.map.specs.Records.{read_at}
-use Rattle.map.specs.Items.{lane_meant, measured_meant, meant, of_map, FitsIn, Says}
-use Rattle.map.specs.Walks.{Walking}
-use Rattle.map.proofs.Reading.{Next, next_record, none_left, next_fits, next_item}
+use Rattle.map.specs.Items.{lane_meant, measured_meant, meant, of_map}
+use Rattle.map.specs.Walks.{Left, all_of, NextSays, Walking}
 
--- the walk has come to the record r, which says i
-pub record Comes {S : Type 0} (I : List model.Item → S → Type 0) (input : List ℕ) (at : ℕ) (kept : S) (r : Record) (i : Item) : Type 0 where
-  pub walk : Walking I input at kept
-  pub next : Next input at r
-  pub left : items (frame (drop at input)).records ≡ meant input i ∷ items (frame (drop r.end input)).records
+-- the walk has come to a record that says i, and `rest` is what is left after it
+pub record Comes {S : Type 0} (I : List model.Item → S → Type 0) (input : List ℕ) (kept : S) (i : Item) (rest : List model.Item) : Type 0 where
   pub in_all : Memᴰ (meant input i) (items (frame input).records)
-  pub first : I (meant input i ∷ items (frame (drop r.end input)).records) kept
+  pub first : I (meant input i ∷ rest) kept
 
-module _ {S : Type 0} {I : List model.Item → S → Type 0} {input : List ℕ} where
-  pub walk_begins : {kept : S} → wrong_length (frame input).records ≡ false → I (items (frame input).records) kept → Walking I input 0 kept
-  walk_begins fit holds = record { inside = omega arith; fit = fit; among = λ i m. m; holds = holds }
+module _ {S : Type 0} {I : List model.Item → S → Type 0} {input : List ℕ} {kept : S} {left : Left} where
+  pub walk_begins : left ≡ all_of input → I (items (frame input).records) kept → Walking I input left kept
+  walk_begins all holds = rw all (record { same = refl; among = λ i m. m; holds = holds })
 
-  module _ {at : ℕ} {kept : S} (walk : Walking I input at kept) where
-    -- what stands where the walk has come to was read
-    pub walk_ends : (x : Read) → x ≡ read_at input at → OneOf (1 ∷ 2 ∷ []) (tag_of the_type x) → I [] kept
-    unfolding items
-    walk_ends x read none = rw (none_left input at walk.inside x read none) at walk.holds
+  module _ (walk : Walking I input left kept) {r : Option Item} {more : Left} (step : NextSays left r more) where
+    pub walk_ends : r ≡ None → I [] kept
+    walk_ends none =
+        let end : left.items ≡ [] = (rw none at step.gives).0 in
+        rw end at walk.holds
 
-    pub walk_next : (x : Read) → x ≡ read_at input at → (r : Record) → x ≡ Whole r → Next input at r
-    walk_next x read r is = next_record input at walk.inside x r read is
+    module _ {i : Item} (is : r ≡ Some i) where
+      split : left.items ≡ meant input i ∷ more.items
+      split = rw walk.same at (rw is at step.gives)
 
-    pub walk_fits : {r : Record} → Next input at r → FitsIn input r
-    walk_fits {r} next = record { lies = next.lies; fits = (next_fits input at r next walk.fit).0 }
+      pub walk_comes : Comes I input kept i more.items
+      walk_comes = record { in_all = walk.among (meant input i) (rw split (Memᴰ.head refl)); first = rw split at walk.holds }
 
-    pub walk_comes : {r : Record} → Next input at r → (i : Item) → Says input r i → Comes I input at kept r i
-    walk_comes {r} next i says =
-        let left = next_item input at r next walk.fit i says in
-        record {
-          walk = walk;
-          next = next;
-          left = left;
-          in_all = walk.among (meant input i) (rw left (Memᴰ.head refl));
-          first = rw left at walk.holds;
-        }
-
-  -- from a record the walk goes on where that ends
-  module _ {at : ℕ} {kept : S} {r : Record} {i : Item} (comes : Comes I input at kept r i) {e : ℕ} (end : e ≡ r.end) where
-    pub walk_less : length input - e < length input - at
-    walk_less = omega (arith, comes.next.later, comes.next.lies.ends)
-
-    pub walk_on : {kept' : S} → I (items (frame (drop r.end input)).records) kept' → Walking I input e kept'
-    walk_on holds =
-        let later : (k : model.Item) → Memᴰ k (items (frame (drop r.end input)).records) → Memᴰ k (items (frame input).records) =
-        λ k m. comes.walk.among k (rw comes.left (Memᴰ.tail m)) in
-        let fit = (next_fits input at r comes.next comes.walk.fit).1 in
-        rw end (record { inside = comes.next.lies.ends; fit = fit; among = later; holds = holds })
+      -- from there the walk goes on with the rest
+      pub walk_on : {kept' : S} → I more.items kept' → Walking I input more kept'
+      walk_on holds = record { same = step.same ∙ walk.same; among = λ k m. walk.among k (rw split (Memᴰ.tail m)); holds = holds }
 
 -- what holds of an item, and for every job and all factors alike, holds of it as far as the item has it itself
 pub of_map_lem : (input : List ℕ) (P : model.Item → Type 0) → ((j k : model.Job) → P (model.job j) → P (model.job k))

@@ -1,13 +1,28 @@
 -- Walking the records of an input, one after another.
-use Rattle.std.specs.Prelude.{◌≡◌, false, ℕ, ◌≤◌, length, drop}
-use mathlib.Core.List.{List, Memᴰ}
+use Rattle.std.specs.Prelude.{◌≡◌, List, ℕ, Option}
+use Rattle.std.specs.Iterator.{YieldsFirstBy}
+use mathlib.Core.List.{Memᴰ}
 use Rattle.model.specs.Framing.{frame}
 use Rattle.model.specs.Items.{Item, items}
-use Rattle.model.specs.Refusals.{wrong_length}
+use Rattle.map.specs.declared.record as declared
+use Rattle.map.specs.Items.{meant}
 
--- The records from byte `at` on are left and all fit; `I` holds of what they say and of what is kept on the way.
-pub record Walking {S : Type 0} (I : List Item → S → Type 0) (input : List ℕ) (at : ℕ) (kept : S) : Type 0 where
-  pub inside : at ≤ length input
-  pub fit : wrong_length (frame (drop at input)).records ≡ false
-  pub among : (i : Item) → Memᴰ i (items (frame (drop at input)).records) → Memᴰ i (items (frame input).records)
-  pub holds : I (items (frame (drop at input)).records) kept
+-- What is left of a walk over an input: what its records say that are still to come.
+pub record Left : Type 0 where
+  pub input : List ℕ
+  pub items : List Item
+
+-- a whole input
+abbrev pub all_of : List ℕ → Left
+all_of input = record { input = input; items = items (frame input).records }
+
+-- one step gives what the first of them says, if any is left, and leaves the others
+pub record NextSays (s : Left) (r : Option declared.Item.Item) (t : Left) : Type 0 where
+  pub same : t.input ≡ s.input
+  pub gives : YieldsFirstBy (meant s.input) (λ (l : Left). l.items) s r t
+
+-- `I` holds of what is left of the input and of what is kept on the way.
+pub record Walking {S : Type 0} (I : List Item → S → Type 0) (input : List ℕ) (left : Left) (kept : S) : Type 0 where
+  pub same : left.input ≡ input
+  pub among : (i : Item) → Memᴰ i left.items → Memᴰ i (items (frame input).records)
+  pub holds : I left.items kept

@@ -5,6 +5,7 @@ pub mod number;
 pub mod record;
 pub mod refusal;
 pub mod sheet;
+pub mod walk;
 
 ghost use Rattle.std.specs.Prelude.{◌≡◌, ◌≤◌};
 ghost use Rattle.map.specs.Sizes.{map_of, words_of, bytes_of};

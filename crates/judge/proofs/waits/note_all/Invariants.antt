@@ -1,14 +1,8 @@
--- `waits::note_all` meets its contract. The loop's invariant: the records from byte `at` on are left to be noted. The measure is the bytes that are
--- left. Assumes nothing.
-use Prim.Native.Nat.{◌-◌}
-use lib.ListN.{length}
+-- `waits::note_all` meets its contract. The loop's invariant: what the iterator has left is left to be noted. Assumes nothing.
 use Rattle.model.specs.Stated.{stated_in}
 use Rattle.map.specs.Walks.{Walking}
 use Rattle.judge.proofs.WaitLaws.{NotingKept}
 use Rattle.judge.proofs.waits.note_all.Given as goal
 
-abbrev pub invariant-loop-r : goal.invariant-loop-r
-invariant-loop-r l = Walking (NotingKept (stated_in l.input)) l.input l.at (l.noted, l.twice)
-
-abbrev pub decreases-loop-r : goal.decreases-loop-r
-decreases-loop-r l = length l.input - l.at
+abbrev pub invariant-loop-item : goal.invariant-loop-item
+invariant-loop-item l = Walking (NotingKept (stated_in l.input)) l.input l.item-iterator (l.noted, l.twice)
