@@ -9,7 +9,8 @@ use lib.ListN.{length, drop, length-append}
 use lib.Seq.{append_snoc}
 use borrow.Author.Tests.{lt-ltb, ne_eqb}
 use Rattle.judge.specs.declared.survey.Survey.{Survey}
-use Rattle.std.specs.Prelude.{None}
+use Rattle.std.specs.Prelude.{Some, None, Ok, Err}
+use Rattle.map.specs.declared.refusal.Refusal.{Refusal}
 use Rattle.judge.specs.Numbers.{no_number, number_or, given_number}
 use Rattle.judge.specs.Marks.{first_mark, Clear}
 use Rattle.judge.specs.Survey.{few_places, with_head, with_lane, with_wait, with_factors, with_default, with_job, noted, again_in, Noted, Counted}
@@ -20,7 +21,6 @@ use Rattle.judge.proofs.ItemLaws.{last_one, opening_size, stray-head}
 use Rattle.judge.proofs.NoteLaws.{either}
 use Rattle.judge.proofs.SurveyLaws.{count, few_places_lem, nothing_yet, notes_again}
 use Rattle.map.specs.declared.record as declared
-use Rattle.map.specs.declared.record.Read.TheVariants.{Whole, Broken, End}
 use Rattle.map.specs.declared.record.Item.{Item}
 use Rattle.map.specs.declared.record.Item.TheVariants.{Head, Lane, Measured, Estimate, Wait, Factors, Default, Job, Misfit, Other}
 use Rattle.map.specs.Records.{read_at, record_in}
@@ -129,10 +129,10 @@ module _ (input : List ℕ) (at : ℕ) (m : List ℕ) (s : Survey) (w : Walked i
         places = rw w.notes.places (few_places_lem (opening (said w.passed)).places);
       }
 
-  pub walk_lies : (r : declared.Record.Record) → read_at input at ≡ Whole r → LiesIn input r
+  pub walk_lies : (r : declared.Record.Record) → read_at input at ≡ Some (Ok r) → LiesIn input r
   walk_lies r e = (frame_whole input at w.inside r e).lies
 
-  pub walk_again : (r : declared.Record.Record) → read_at input at ≡ Whole r → (i : Item) → Says input r i
+  pub walk_again : (r : declared.Record.Record) → read_at input at ≡ Some (Ok r) → (i : Item) → Says input r i
       → (marks : List ℕ) (t : Survey) → Noted m s i marks t → Walked input r.end marks t
   unfolding push
   walk_again r e i says marks t step =
@@ -210,13 +210,14 @@ module _ (input : List ℕ) (m : List ℕ) (s : Survey) where
       }
 
 module _ (input : List ℕ) (at : ℕ) (m : List ℕ) (s : Survey) (w : Walked input at m s) where
-  pub walk_broken : (t : Survey) → given_number t.refusal ≡ 1 → read_at input at ≡ Broken → Surveyed input m t
+  pub walk_broken : (r : Refusal) → read_at input at ≡ Some (Err r) → (t : Survey) → t.refusal ≡ Some r → Surveyed input m t
   unfolding stop form_rows number_or first_that_holds
-  walk_broken t one e =
-      let broken : (frame input).broken ≡ true = w.broken ∙ ap (λ (f : Framed). f.broken) (frame_broken input at w.inside e) in
-      record { number = one ∙ rw broken; states = λ none. let z = rw broken at none in absurd (omega arith) }
+  walk_broken r e t is =
+      let found = frame_broken input at w.inside r e in
+      let broken : (frame input).broken ≡ true = w.broken ∙ ap (λ (f : Framed). f.broken) found.1 in
+      record { number = rw (is, found.0, broken); states = λ none. let z = rw broken at none in absurd (omega arith) }
 
-  pub walk_end : read_at input at ≡ End → Surveyed input m (at_end s)
+  pub walk_end : read_at input at ≡ None → Surveyed input m (at_end s)
   unfolding stop at_end
   walk_end e =
       let is = frame_end input at w.inside e in

@@ -8,7 +8,7 @@ ghost use Rattle.judge.specs.Survey.{with_head, with_lane, with_wait, with_facto
 ghost use Rattle.judge.specs.Survey.{at_end, Counted, Noted, Surveyed};
 
 use crate::marks;
-use map::record::{Item, JobFields, PlaceValue, Read, Size};
+use map::record::{Item, JobFields, PlaceValue, Size};
 use map::refusal::Refusal;
 use map::{Map, record};
 
@@ -312,16 +312,16 @@ pub fn of(input: &[u8], marks: &mut [u8; Map::PLACES]) -> Survey
     let mut at: usize = 0;
     loop {
         match record::read_at(input, at) {
-            Read::Whole(r) => {
+            Some(Ok(r)) => {
                 let item = record::item_of(input, r);
                 s = with_item(s, item, marks);
                 at = record::end_of(r, item);
             }
-            Read::Broken => {
-                s.refusal = Some(Refusal::Broken);
+            Some(Err(refusal)) => {
+                s.refusal = Some(refusal);
                 return s;
             }
-            Read::End => return ended(s),
+            None => return ended(s),
         }
     }
 }

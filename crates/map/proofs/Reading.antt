@@ -1,24 +1,21 @@
 -- Reading record by record: what a read leaves of the records, and what those say that fit. Assumes nothing.
 use mathlib.Core.Path.{◌≡◌, sym, ap, ◌∙◌}
-use mathlib.Core.Logic.{⊎_elim}
+use mathlib.Core.Logic.{◌⊎◌, inl, inr}
 use mathlib.Core.List.{List, [], ◌∷◌}
 use mathlib.Core.Bool.{false}
 use Prim.Native.Nat.{ℕ, ◌≤◌, ◌<◌}
 use native.Mathlib.Omega.{arith}
 use lib.ListN.{length, drop}
-use types.Run.{OneOf}
-use denote.Enum.Declared.{tag_of}
-use Rattle.map.specs.contracts.record.Read.{the_type}
 use Rattle.map.specs.declared.record.Record.{Record}
-use Rattle.map.specs.declared.record.Read.{Read}
+use Rattle.map.specs.declared.refusal.Refusal.{Refusal}
+use Rattle.std.specs.Prelude.{Some, None, Ok, Err}
 use Rattle.map.specs.declared.record.Item.{Item}
-use Rattle.map.specs.declared.record.Read.TheVariants.{Whole, Broken, End}
 use Rattle.model.specs.Framing.{stop, push, frame}
 use Rattle.model.specs.Items.{item_of, misfits, items}
 use Rattle.model.specs.Lists.{any}
 use Rattle.model.specs.Refusals.{wrong_length}
 use Rattle.model.proofs.Lists.{neither}
-use Rattle.map.specs.Records.{read_at, record_in}
+use Rattle.map.specs.Records.{Read, read_at, record_in}
 use Rattle.map.specs.Items.{meant, LiesIn, Says}
 use Rattle.map.proofs.Records.{frame_end, frame_broken, frame_whole}
 
@@ -30,7 +27,7 @@ pub record Next (s : List ℕ) (at : ℕ) (r : Record) : Type 0 where
 
 module _ (s : List ℕ) (at : ℕ) (inside : at ≤ length s) where
   -- a whole record that is read is the first of those left
-  pub next_record : (x : Read) (r : Record) → x ≡ read_at s at → x ≡ Whole r → Next s at r
+  pub next_record : (x : Read) (r : Record) → x ≡ read_at s at → x ≡ Some (Ok r) → Next s at r
   unfolding push
   next_record x r read is =
       let whole = frame_whole s at inside r (sym read ∙ is) in
@@ -41,11 +38,10 @@ module _ (s : List ℕ) (at : ℕ) (inside : at ≤ length s) where
       }
 
   -- where no whole record is read, none is left
-  pub none_left : (x : Read) → x ≡ read_at s at → OneOf (1 ∷ 2 ∷ []) (tag_of the_type x) → (frame (drop at s)).records ≡ []
+  pub none_left : (x : Read) → x ≡ read_at s at → (x ≡ None) ⊎ ((e : Refusal) × (x ≡ Some (Err e))) → (frame (drop at s)).records ≡ []
   unfolding stop
-  none_left (Whole r) e k = ⊎_elim (λ h. absurd (omega arith)) (λ h. absurd (omega arith)) k
-  none_left Broken e k = ap (λ f. f.records) (frame_broken s at inside (sym e))
-  none_left End e k = ap (λ f. f.records) (frame_end s at inside (sym e)).1
+  none_left x read (inl is) = ap (λ f. f.records) (frame_end s at inside (sym read ∙ is)).1
+  none_left x read (inr (e, is)) = ap (λ f. f.records) (frame_broken s at inside e (sym read ∙ is)).1
 
 -- a record that fits says what is read of it
 pub said : (s : List ℕ) (r : Record) (i : Item) → Says s r i → misfits (record_in s r) ≡ false → item_of (record_in s r) ≡ meant s i

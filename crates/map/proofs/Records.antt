@@ -9,9 +9,10 @@ use lib.ListN.{length, take, drop, length-drop}
 use lib.Seq.{drop-drop}
 use borrow.Author.Tests.{eqb-true, eqb-false, ltb-true, ltb-false, le-leb, lt-leb}
 use Rattle.map.specs.declared.record.Record.{Record}
-use Rattle.map.specs.declared.record.Read.{Read}
-use Rattle.map.specs.declared.record.Read.TheVariants.{Whole, Broken, End}
-use Rattle.map.specs.Records.{read_at, record_in}
+use Rattle.std.specs.Prelude.{Some, None, Ok, Err}
+use Rattle.map.specs.declared.refusal.Refusal.{Refusal}
+use Rattle.map.specs.declared.refusal.Refusal.TheVariants.{Broken}
+use Rattle.map.specs.Records.{Read, broken, read_at, record_in}
 use Rattle.map.specs.Items.{LiesIn}
 use Rattle.map.proofs.Parts.{u16-drop}
 use Rattle.model.specs.Bytes.{u16}
@@ -20,11 +21,11 @@ use Rattle.model.proofs.Framing.{frame-none, frame_short, frame_first}
 
 -- by what test the reader finds what it finds
 data Finds (s : List ℕ) (at : ℕ) : Read → Type 0 where
-  nothing : length s - at ≡ 0 → Finds s at End
-  short : 0 < length s - at → length s - at < 4 → Finds s at Broken
-  past : 4 ≤ length s - at → length s - at - 4 < u16 s at → Finds s at Broken
+  nothing : length s - at ≡ 0 → Finds s at None
+  short : 0 < length s - at → length s - at < 4 → Finds s at broken
+  past : 4 ≤ length s - at → length s - at - 4 < u16 s at → Finds s at broken
   whole : 4 ≤ length s - at → u16 s at ≤ length s - at - 4
-      → Finds s at (Whole (record { kind = u16 s (at + 2); start = at + 4; end = at + 4 + u16 s at }))
+      → Finds s at (Some (Ok (record { kind = u16 s (at + 2); start = at + 4; end = at + 4 + u16 s at })))
 
 finds : (s : List ℕ) (at : ℕ) → Finds s at (read_at s at)
 unfolding read_at
@@ -34,18 +35,18 @@ finds s at = by_left (eqb left 0) refl
     left = length s - at
 
     found : Read
-    found = Whole (record { kind = u16 s (at + 2); start = at + 4; end = at + 4 + u16 s at })
+    found = Some (Ok (record { kind = u16 s (at + 2); start = at + 4; end = at + 4 + u16 s at }))
 
-    by_length : 4 ≤ left → (t : Bool) → ltb (left - 4) (u16 s at) ≡ t → Finds s at (cond t Broken found)
+    by_length : 4 ≤ left → (t : Bool) → ltb (left - 4) (u16 s at) ≡ t → Finds s at (cond t broken found)
     by_length h true e = past h (ltb-true _ _ e)
     by_length h false e = whole h (ltb-false _ _ e)
 
-    by_four : 0 < left → (t : Bool) → ltb left 4 ≡ t → Finds s at (cond t Broken (cond (ltb (left - 4) (u16 s at)) Broken found))
+    by_four : 0 < left → (t : Bool) → ltb left 4 ≡ t → Finds s at (cond t broken (cond (ltb (left - 4) (u16 s at)) broken found))
     by_four h true e = short h (ltb-true _ _ e)
     by_four h false e = by_length (ltb-false _ _ e) (ltb (left - 4) (u16 s at)) refl
 
     by_left : (t : Bool) → eqb left 0 ≡ t
-        → Finds s at (cond t End (cond (ltb left 4) Broken (cond (ltb (left - 4) (u16 s at)) Broken found)))
+        → Finds s at (cond t None (cond (ltb left 4) broken (cond (ltb (left - 4) (u16 s at)) broken found)))
     by_left true e = nothing (eqb-true _ _ e)
     by_left false e = let some = eqb-false left 0 e in by_four (omega arith) (ltb left 4) refl
 
@@ -69,22 +70,32 @@ other : {A : Type 0} → ◌≡◌ {A = ℕ} 0 1 → A
 other e = absurd (omega arith)
 
 module _ (s : List ℕ) (at : ℕ) (inside : at ≤ length s) where
-  pub frame_end : read_at s at ≡ End → (at ≡ length s) × (frame (drop at s) ≡ stop false)
+  pub frame_end : read_at s at ≡ None → (at ≡ length s) × (frame (drop at s) ≡ stop false)
   frame_end e = go (read_at s at) (finds s at) e
     where
-      go : (f : Read) → Finds s at f → f ≡ End → (at ≡ length s) × (frame (drop at s) ≡ stop false)
+      go : (f : Read) → Finds s at f → f ≡ None → (at ≡ length s) × (frame (drop at s) ≡ stop false)
       go f (nothing h) e = (omega arith, frame-none (drop at s) (rw length-drop h))
       go f (short h g) e = other (cc)
       go f (past h g) e = other (cc)
       go f (whole h g) e = other (cc)
 
-  pub frame_broken : read_at s at ≡ Broken → frame (drop at s) ≡ stop true
-  frame_broken e = go (read_at s at) (finds s at) e
+  -- a tail that is no whole record is refused as broken
+  pub frame_broken : (r : Refusal) → read_at s at ≡ Some (Err r) → (r ≡ Broken) × (frame (drop at s) ≡ stop true)
+  frame_broken r e = go (read_at s at) (finds s at) e
     where
-      go : (f : Read) → Finds s at f → f ≡ Broken → frame (drop at s) ≡ stop true
+      go : (f : Read) → Finds s at f → f ≡ Some (Err r) → (r ≡ Broken) × (frame (drop at s) ≡ stop true)
       go f (nothing h) e = other (cc)
-      go f (short h g) e = frame_short (drop at s) (rw length-drop h) (rw length-drop g)
-      go f (past h g) e = frame_at s at h ∙ simp (lt-leb (u16 s at) (length s - (at + 4)) (omega arith))
+      go f (short h g) e = (cc, frame_short (drop at s) (rw length-drop h) (rw length-drop g))
+      go f (past h g) e = (cc, frame_at s at h ∙ simp (lt-leb (u16 s at) (length s - (at + 4)) (omega arith)))
+      go f (whole h g) e = other (cc)
+
+  pub broken_left : (r : Refusal) → read_at s at ≡ Some (Err r) → at < length s
+  broken_left r e = go (read_at s at) (finds s at) e
+    where
+      go : (f : Read) → Finds s at f → f ≡ Some (Err r) → at < length s
+      go f (nothing h) e = other (cc)
+      go f (short h g) e = omega arith
+      go f (past h g) e = omega arith
       go f (whole h g) e = other (cc)
 
   pub record IsWhole (r : Record) : Type 0 where
@@ -102,10 +113,10 @@ module _ (s : List ℕ) (at : ℕ) (inside : at ≤ length s) where
         framed = frame_at s at h ∙ simp (← e, body, le-leb n (length s - (at + 4)) (omega arith));
       }
 
-  pub frame_whole : (r : Record) → read_at s at ≡ Whole r → IsWhole r
+  pub frame_whole : (r : Record) → read_at s at ≡ Some (Ok r) → IsWhole r
   frame_whole r e = go (read_at s at) (finds s at) e
     where
-      go : (f : Read) → Finds s at f → f ≡ Whole r → IsWhole r
+      go : (f : Read) → Finds s at f → f ≡ Some (Ok r) → IsWhole r
       go f (nothing h) e = other (cc)
       go f (short h g) e = other (cc)
       go f (past h g) e = other (cc)
@@ -114,7 +125,7 @@ module _ (s : List ℕ) (at : ℕ) (inside : at ≤ length s) where
           rw is at (whole_first (u16 s at) refl h g)
 
   -- after a whole record less is left
-  pub less_left : (r : Record) → read_at s at ≡ Whole r → length s - r.end < length s - at
+  pub less_left : (r : Record) → read_at s at ≡ Some (Ok r) → length s - r.end < length s - at
   less_left r e =
       let is = frame_whole r e in
       omega (arith, is.begins, is.lies.forward, is.lies.ends)

@@ -1,11 +1,30 @@
 -- Walking the records of an input, one after another.
-use Rattle.std.specs.Prelude.{◌≡◌, List, ℕ, Option}
+use Rattle.std.specs.Prelude.{◌≡◌, List, ℕ, ◌≤◌, length, Option, Some, None, Ok, Err}
 use Rattle.std.specs.Iterator.{YieldsFirstBy}
 use mathlib.Core.List.{Memᴰ}
 use Rattle.model.specs.Framing.{frame}
 use Rattle.model.specs.Items.{Item, items}
 use Rattle.map.specs.declared.record as declared
+use Rattle.map.specs.Records.{Read, read_at}
 use Rattle.map.specs.Items.{meant}
+
+-- Where a walk over the records of an input stands.
+pub record Position : Type 0 where
+  pub input : List ℕ
+  pub at : ℕ
+
+-- where it stands after this read at byte `at`
+abbrev pub after : List ℕ → ℕ → Read → ℕ
+after input at (Some (Ok r)) = r.end
+after input at (Some (Err e)) = length input
+after input at None = at
+
+-- one step gives what is read where the walk stands
+pub record NextReads (s : Position) (read : Read) (t : Position) : Type 0 where
+  pub same : t.input ≡ s.input
+  pub inside : s.at ≤ length s.input
+  pub reads : read ≡ read_at s.input s.at
+  pub moves : t.at ≡ after s.input s.at read
 
 -- What is left of a walk over an input: what its records say that are still to come.
 pub record Left : Type 0 where

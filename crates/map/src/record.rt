@@ -8,6 +8,7 @@ ghost use Rattle.map.specs.Items.{size_at, lane_meant, measured_meant, estimate_
 ghost use Rattle.map.specs.Items.{LiesIn, FitsIn, Says, EndsBy};
 
 use crate::Map;
+use crate::refusal::Refusal;
 
 pub const HEAD_KIND: u16 = 1;
 
@@ -88,13 +89,6 @@ pub struct Record {
 }
 
 #[derive(Clone, Copy)]
-pub enum Read {
-    Whole(Record),
-    Broken,
-    End,
-}
-
-#[derive(Clone, Copy)]
 pub struct Size {
     pub places: usize,
     pub arcs: usize,
@@ -149,27 +143,27 @@ pub enum Item {
     Other,
 }
 
-// What stands at a position where a record should begin.
-pub fn read_at(input: &[u8], at: usize) -> Read
+// What stands at a position where a record should begin: nothing at the end, a record, or a broken tail.
+pub fn read_at(input: &[u8], at: usize) -> Option<Result<Record, Refusal>>
     requires { at ≤ length input.now }
     ensures { result ≡ read_at input.now at }
 {
     let left = input.len() - at;
     if left == 0 {
-        return Read::End;
+        return None;
     }
     if left < HEADER {
-        return Read::Broken;
+        return Some(Err(Refusal::Broken));
     }
     let len = usize::from(area::u16_at(input, at));
     if left - HEADER < len {
-        return Read::Broken;
+        return Some(Err(Refusal::Broken));
     }
-    Read::Whole(Record {
+    Some(Ok(Record {
         kind: area::u16_at(input, at + 2),
         start: at + HEADER,
         end: at + HEADER + len,
-    })
+    }))
 }
 
 fn head_at(input: &[u8], at: usize) -> Size
