@@ -30,7 +30,7 @@ use Rattle.query.specs.declared.Outcome.{Outcome}
 use Rattle.query.specs.declared.Outcome.TheVariants.{Ended, Over, Found, None}
 use Rattle.search.specs.Rounds.{high_of, round_of, reached_by, Searched}
 use Rattle.search.specs.Underway.{BudgetFitsAfter, RoundAfter, GoalLabelled, Parented, Underway, BetweenQueries}
-use Rattle.search.specs.declared.High.TheVariants.{Unset}
+use Rattle.std.specs.Prelude as std
 use Rattle.search.specs.declared.Reached.{Reached}
 use Rattle.search.specs.declared.Round.{Round}
 use Rattle.search.specs.declared.Verdict.{Verdict}
@@ -66,7 +66,7 @@ module _ {s : Site} {w₀ : List ℕ} (holds : Holds s w₀) where
 
   -- the search begins in the first round
   pub begins : Ready s.places w₀ → (a low : ℕ) (o : Outcome) → low ≡ estimate_word s.places w₀ s.start
-      → BetweenQueries s a w₀ w₀ (record { low = low; high = Unset; budget = 1; outcome = o }) 0 0
+      → BetweenQueries s a w₀ w₀ (record { low = low; high = std.None; budget = 1; outcome = o }) 0 0
   unfolding first_round problem_at
   begins ready a low o e =
       record {

@@ -1,4 +1,5 @@
 use mathlib.Core.Path.{◌≡◌}
+use mathlib.Core.Logic.{inl, inr}
 use native.Mathlib.Omega.{arith}
 use lib.ListN.{drop}
 use Rattle.layout.specs.Regions.{ends_at}
@@ -45,8 +46,7 @@ query-asked-requires c =
 
 pub returns-then-asked : goal.returns-then-asked
 returns-then-asked c =
-    rw c.cut_short.ensures
-    (turns.searched_same (same_map (goal.at.returns-then-asked c).After-slice_known-2-1) (turns.turn_spent (turn (goal.at.returns-then-asked c).After-query-asked) c.if-asked.true))
+    turns.searched_same (same_map (goal.at.returns-then-asked c).After-slice_known-2-1) (turns.turn_spent (turn (goal.at.returns-then-asked c).After-query-asked) c.if-asked.true)
 
 pub after-round-requires : goal.after-round-requires
 after-round-requires c = turns.turn_fits (turn (goal.at.after-round-requires c).After-query-asked) c.if-asked.false
@@ -65,17 +65,7 @@ returns-in-Found c =
 pub returns-in-None : goal.returns-in-None
 returns-in-None c =
     let none = turns.turn_no_route (turn (goal.at.returns-in-None c).After-query-asked) c.if-asked.false _ c.after-round.ensures c.in-None.is in
-    rw c.no_goal.ensures (turns.searched_same (same_map (goal.at.returns-in-None c).After-slice_known-2-1) none)
-
-pub loop-site-smaller-in-Ended : goal.loop-site-smaller-in-Ended
-loop-site-smaller-in-Ended c =
-    let t = (turn (goal.at.loop-site-smaller-in-Ended c).After-query-asked) in
-    omega (arith, turns.query_left t.holds t.between)
-
-pub loop-site-preserved-in-Ended : goal.loop-site-preserved-in-Ended
-loop-site-preserved-in-Ended c =
-    let t = (turn (goal.at.loop-site-preserved-in-Ended c).After-query-asked) in
-    turns.turn_ended t c.if-asked.false _ c.after-round.ensures c.in-Ended.is
+    turns.searched_same (same_map (goal.at.returns-in-None c).After-slice_known-2-1) none
 
 pub loop-site-smaller : goal.loop-site-smaller
 loop-site-smaller c =
@@ -85,4 +75,7 @@ loop-site-smaller c =
 pub loop-site-preserved : goal.loop-site-preserved
 loop-site-preserved c =
     let t = (turn (goal.at.loop-site-preserved c).After-query-asked) in
-    turns.turn_over t c.if-asked.false _ c.after-round.ensures c.in-Over.is
+    elim c.in-Ended.is [
+      | inl (x, ended) ↦ turns.turn_ended t c.if-asked.false _ c.after-round.ensures ended
+      | inr over ↦ turns.turn_over t c.if-asked.false _ c.after-round.ensures over
+    ]
