@@ -5,6 +5,8 @@ ghost use Rattle.std.specs.Prelude.{◌≡◌, ◌+◌, ◌<◌, ◌≤◌, leng
 ghost use Rattle.std.proofs.lemmas.List.Edits.{sets};
 ghost use Rattle.model.specs.Bytes.{u16, u32, put16 as bytes16, put32 as bytes32};
 
+pub mod pair;
+
 fn wide8(x: u8) -> u16
     ensures { (result ≡ x) × (result < 256) }
 {

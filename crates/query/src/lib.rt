@@ -114,15 +114,12 @@ fn expand(work: &mut [u32], site: Site, hand: u64, limit: u32, u: usize, d: u32)
 {
     let n = site.places;
     let k = layout::depth(work, n, u) + 1;
-    let mut h = hand;
-    let mut j = layout::row_start(work, n, u);
-    let end = layout::row_end(work, n, u);
-    while j < end {
+    let mut hand = hand;
+    for j in layout::row_start(work, n, u)..layout::row_end(work, n, u) {
         let x = layout::arc(work, n, j);
-        h = relax(work, n, h, limit, d, k, x);
-        j += 1;
+        hand = relax(work, n, hand, limit, d, k, x);
     }
-    h
+    hand
 }
 
 // What a query gives.

@@ -41,11 +41,11 @@ under c = searching c.requires c.clear.ensures c.arrive-hand.ensures c.loop-work
 -- where the first of the open list is a place, and where it is none
 taken : (c : Else-d)
     → (let a = c.args in let l = c.loop-work in
-    Taken a.site a.limit a.budget a.left c.arrive-hand.new.work l.hand l.work l.count c.place_of-place.result c.key_of-d.result)
+    Taken a.site a.limit a.budget a.left c.arrive-hand.new.work l.hand l.work l.count c.low-place.result c.high-d.result)
 unfolding part
 taken c =
     let search = searching c.requires c.clear.ensures c.arrive-hand.ensures c.loop-work.invariant in
-    let first = rw (← c.place_of-place.ensures, ← c.key_of-d.ensures) at c.least-first.ensures in
+    let first = rw (← c.low-place.ensures, ← c.high-d.ensures) at c.least-first.ensures in
     underway.taken _ search _ _ c.open_at-open_start.ensures c.parents_at-open_end.ensures _ _ first (omega (arith, c.if-d.false))
 
 none_open : (c : Then-d)
@@ -53,7 +53,7 @@ none_open : (c : Then-d)
 unfolding part
 none_open c =
     let search = searching c.requires c.clear.ensures c.arrive-hand.ensures c.loop-work.invariant in
-    let first = rw (← c.place_of-place.ensures, ← c.key_of-d.ensures) at c.least-first.ensures in
+    let first = rw (← c.low-place.ensures, ← c.high-d.ensures) at c.least-first.ensures in
     underway.none_open _ search _ _ c.open_at-open_start.ensures c.parents_at-open_end.ensures _ _ first (omega (arith, c.if-d.true))
 
 pub open_at-open_start-requires : goal.open_at-open_start-requires
