@@ -140,15 +140,15 @@ pub fn search(work: &mut [u32], site: Site, allowance: u32) -> Verdict
     loop {
         let limit = limit_of(round.low, round.high);
         queries += 1;
-        let asked = query::query(work, site, limit, round.budget, allowance - expansions);
-        expansions += asked.count;
-        if asked.spent {
+        let Ok(asked) = query::query(work, site, limit, round.budget, allowance - expansions) else {
+            // The query has counted all that was left.
             return Verdict::Spent(CutShort {
                 floor: round.low,
-                expansions,
+                expansions: allowance,
                 queries,
             });
-        }
+        };
+        expansions += asked.count;
         round = after(round, site.growth, limit, asked.outcome);
         match round.outcome {
             Outcome::Found => return found(work, site, asked.place, limit, expansions, queries),
