@@ -5,6 +5,8 @@ ghost use Rattle.std.specs.Prelude.{◌≡◌, ◌+◌, ◌<◌, ◌≤◌, leng
 ghost use Rattle.std.proofs.lemmas.List.Edits.{sets};
 ghost use Rattle.model.specs.Bytes.{u16, u32, put16 as bytes16, put32 as bytes32};
 
+pub mod pair;
+
 // A number of 16 bits as one of 32.
 pub fn wide16(x: u16) -> u32
     ensures { (result ≡ x) × (result < 65536) }

@@ -3,7 +3,8 @@
 use mathlib.Core.Path.{◌≡◌, sym, ◌∙◌}
 use mathlib.Core.List.{List}
 use mathlib.Core.Logic.{◌≢◌}
-use Prim.Native.Nat.{ℕ, ◌<◌, ◌≤◌}
+use Prim.Native.Nat.{ℕ, ◌<◌, ◌≤◌, min}
+use native.Mathlib.Decide.{dec_lt}
 use native.Mathlib.Omega.{arith}
 use lib.ListN.{length, get_or}
 use Rattle.open_list.specs.Entry.{IsEntry, place_of, key_of, word_end, no_key}
@@ -100,6 +101,13 @@ module _ (n h b : ℕ) (t : List ℕ) (o : OpenList n h t) (f : LeastKey (tree_k
   pub tree_first : b ≤ h → LeastKey (keys_of n h t) (place_of b) (key_of b)
   unfolding keys_of
   tree_first c = hand.list_first (tree_keys n t) h b (held_of n h t o) f c
+
+  pub either_first : (r : ℕ) → r ≡ min h b → LeastKey (keys_of n h t) (place_of r) (key_of r)
+  either_first r e = go (dec_lt h b)
+    where
+      go : Dec (h < b) → LeastKey (keys_of n h t) (place_of r) (key_of r)
+      go (yes l) = let same : r ≡ h = omega arith in rw same (hand_first l)
+      go (no l) = let same : r ≡ b = omega arith in rw same (tree_first (omega arith))
 
 -- ---- clear
 pub cleared : (n : ℕ) (t : List ℕ) → TreeCleared n t → Cleared n t

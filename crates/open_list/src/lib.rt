@@ -22,13 +22,13 @@ mod tree;
 pub use entry::{key_of, place_of};
 
 // The key of a place that is not open.
-pub const NONE: u32 = 0xFFFF_FFFF;
+pub const NONE: u32 = u32::MAX;
 
 // The words of the list for each place.
 pub const WORDS: usize = 10;
 
 // The entry after all others, with no key and a place beyond all: the hand with nothing in it.
-const EMPTY: u64 = 18446744073709551615;
+const EMPTY: u64 = u64::MAX;
 
 // Nothing in hand.
 pub fn empty() -> u64
@@ -108,5 +108,5 @@ pub fn least(words: &[u32], places: usize, hand: u64) -> u64
     ensures { LeastKey (keys_of places hand words.now) (place_of result) (key_of result) }
 {
     let root = tree::least(words, places);
-    if hand < root { hand } else { root }
+    hand.min(root)
 }

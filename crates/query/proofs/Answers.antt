@@ -1,6 +1,6 @@
 -- What a query answers: at a goal, at the end of its budget or of the allowance, and when nothing is open. Assumes nothing.
-use mathlib.Core.Path.{◌≡◌, refl, sym, ◌∙◌}
-use mathlib.Core.Bool.{Bool, true, false, false≢true}
+use mathlib.Core.Path.{◌≡◌, refl, sym, subst, ◌∙◌}
+use mathlib.Core.Bool.{Bool, true, false}
 use mathlib.Core.List.{List}
 use mathlib.Core.Option.{Option, none, some}
 use Prim.Native.Nat.{ℕ, ◌≤◌}
@@ -21,27 +21,34 @@ use Rattle.model.proofs.LeastCosts.{table-length, entry_path}
 use Rattle.query.specs.Front.{Front, FewestFound, FirstOpen, NoneOpen, count_below}
 use Rattle.scans.specs.Area.{IsNextLimit}
 use Rattle.query.specs.Open.{settled_at}
-use Rattle.query.specs.Query.{Ready, Agrees, IsExpanded, Answered, outcome_of}
+use Rattle.std.specs.Prelude.{Result, Ok, Err}
+use Rattle.query.specs.Query.{Ready, Agrees, IsExpanded, Given, Answered, outcome_of}
 use Rattle.query.specs.State.{Searching, AllSettled}
 use Rattle.query.specs.declared.Outcome.TheVariants.{Ended, Over, Found, None}
 use Rattle.query.specs.declared.Asked.{Asked}
-use Rattle.query.proofs.Settling.{not_both, least_label, path_label}
+use Rattle.query.specs.declared.Spent.{Spent}
+use Rattle.query.proofs.Settling.{least_label, path_label}
 use Rattle.query.proofs.Front.{settled_least, labels_are_table, goal_found, goal_outcome, over_outcome, spent_cost, all_settled}
 use Rattle.query.proofs.Fewest.{fewest_same, depth_entry}
 use Rattle.query.proofs.QueryUnderway.{QueryUnderway, label_below, depth_below}
 
 -- the next limit that was found, as an outcome
 module _ (s : Site) (count : ℕ) (w : List ℕ) (next : ℕ) (i : IsNextLimit s w next) where
-  pub ended-none : next ≡ no_word → AllSettled s count w (record { spent = false; outcome = None; count = count; place = 0 })
+  pub ended-none : next ≡ no_word → AllSettled s count w (record { outcome = None; count = count; place = 0 })
   unfolding not_over
-  ended-none e = record { lasts = refl; count_is = refl; outcome_is = rw (← i.next, word_or-none next e) }
+  ended-none e = record { count_is = refl; outcome_is = rw (← i.next, word_or-none next e) }
 
-  pub ended_next : (next ≡ no_word → ⊥) → AllSettled s count w (record { spent = false; outcome = Ended next; count = count; place = 0 })
+  pub ended_next : (next ≡ no_word → ⊥) → AllSettled s count w (record { outcome = Ended next; count = count; place = 0 })
   unfolding not_over
-  ended_next e = record { lasts = refl; count_is = refl; outcome_is = rw (← i.next, word_or-some next e) }
+  ended_next e = record { count_is = refl; outcome_is = rw (← i.next, word_or-some next e) }
+
+-- what is given is the one answer
+given_ok : {p : Problem} {limit budget left : ℕ} {w : List ℕ} {r : Asked} → Given p limit budget left w r → (a : Asked)
+    → ◌≡◌ {A = Result Asked Spent} (Ok r) (Ok a) → Given p limit budget left w a
+given_ok {r = r} g a e = let same : r ≡ a = cc in rw (← same) g
 
 -- words with the same map are answered the same
-pub answered_same : (s : Site) (limit budget left : ℕ) (w₀ w₁ w : List ℕ) (r : Asked) → drop (ends_at s.places) w₁ ≡ drop (ends_at s.places) w₀
+pub answered_same : (s : Site) (limit budget left : ℕ) (w₀ w₁ w : List ℕ) (r : Result Asked Spent) → drop (ends_at s.places) w₁ ≡ drop (ends_at s.places) w₀
     → Answered s limit budget left w₁ w r → Answered s limit budget left w₀ w r
 answered_same s limit budget left w₀ w₁ w r same a =
     let p = problem_same s w₁ w₀ same in
@@ -49,11 +56,7 @@ answered_same s limit budget left w₀ w₁ w r same a =
       same_map = a.same_map ∙ same;
       ready = a.ready;
       spent = rw p at a.spent;
-      cut = a.cut;
-      lasts = rw p at a.lasts;
-      outcome = rw p at a.outcome;
-      count = rw p at a.count;
-      found = rw p at a.found;
+      given = rw p at a.given;
       fewest = rw p at a.fewest;
     }
 
@@ -96,7 +99,7 @@ module _ {s : Site} {limit budget left : ℕ} {w₀ : List ℕ} {hand : ℕ} {w 
 
   -- nothing is open: the labels are the table, and the outcome is by its next limit
   pub answered_settled : NoneOpen (λ v. cost_at (labels n w) v) (settled_at n hand w) → (r : Asked) → AllSettled s count w r
-      → Answered s limit budget left w₀ w r
+      → Answered s limit budget left w₀ w (Ok r)
   unfolding p label settled problem_at not_over
   answered_settled none_open r a =
       let result = all_settled p valid limit label settled front budget none_open (omega (arith, counted, searching.in_budget)) in
@@ -106,12 +109,13 @@ module _ {s : Site} {limit budget left : ℕ} {w₀ : List ℕ} {hand : ℕ} {w 
       record {
         same_map = searching.same_map;
         ready = ready;
-        spent = λ t. absurd (not_both t a.lasts);
-        cut = λ t. absurd (not_both t a.lasts);
-        lasts = λ t. omega (arith, cost, searching.lasts);
-        outcome = λ t. outcome ∙ sym result.1;
-        count = λ t. a.count_is ∙ sym cost;
-        found = λ t q. absurd (not_found (next_limit p (table p limit)) (rw q at outcome));
+        spent = λ e t. cc;
+        given = given_ok (record {
+          lasts = omega (arith, cost, searching.lasts);
+          outcome = outcome ∙ sym result.1;
+          count = a.count_is ∙ sym cost;
+          found = λ q. absurd (not_found (next_limit p (table p limit)) (rw q at outcome));
+        });
         fewest = rw a.count_is fewest;
       }
     where
@@ -149,7 +153,7 @@ module _ {s : Site} {limit budget left : ℕ} {w₀ : List ℕ} {hand : ℕ} {w 
 
     -- the first open place is a goal
     pub answered_goal : IsGoal (problem_at s w₀) v
-        → Answered s limit budget left w₀ w (record { spent = false; outcome = Found; count = count; place = v })
+        → Answered s limit budget left w₀ w (Ok (record { outcome = Found; count = count; place = v }))
     unfolding p label settled problem_at
     answered_goal goal =
         let result = goal_outcome p valid limit label settled front v d budget first goal (omega (arith, counted, searching.in_budget)) in
@@ -157,55 +161,53 @@ module _ {s : Site} {limit budget left : ℕ} {w₀ : List ℕ} {hand : ℕ} {w 
         record {
           same_map = searching.same_map;
           ready = ready;
-          spent = λ t. absurd (false≢true t);
-          cut = λ t. absurd (false≢true t);
-          lasts = λ t. omega (arith, cost, searching.lasts);
-          outcome = λ t. sym result.0;
-          count = λ t. sym cost;
-          found = λ t q. record {
-            cost = d;
-            is_first = goal_found p valid limit label settled front v d first goal;
-            agrees = labels_agree;
-            depths = λ u x e l.
-                let entry = labels_agree.label_entry u x e l in
-                depth_entry p valid limit label (depth_word n w) settled front searching.fewest v d first goal u x e l entry;
-            label_below = label_below s under;
-            depth_below = depth_below s under;
-          };
+          spent = λ e t. cc;
+          given = given_ok (record {
+            lasts = omega (arith, cost, searching.lasts);
+            outcome = sym result.0;
+            count = sym cost;
+            found = λ q. record {
+              cost = d;
+              is_first = goal_found p valid limit label settled front v d first goal;
+              agrees = labels_agree;
+              depths = λ u x e l.
+                  let entry = labels_agree.label_entry u x e l in
+                  depth_entry p valid limit label (depth_word n w) settled front searching.fewest v d first goal u x e l entry;
+              label_below = label_below s under;
+              depth_below = depth_below s under;
+            };
+          });
           fewest = fewest;
         }
 
     -- it is none, and the budget is used up
     pub answered_over : (IsGoal (problem_at s w₀) v → ⊥) → count ≡ budget
-        → Answered s limit budget left w₀ w (record { spent = false; outcome = Over; count = count; place = 0 })
+        → Answered s limit budget left w₀ w (Ok (record { outcome = Over; count = count; place = 0 }))
     unfolding p label
     answered_over no_goal b =
         let result = over_outcome p valid limit label settled front v d budget first no_goal (counted ∙ b) in
         record {
           same_map = searching.same_map;
           ready = ready;
-          spent = λ t. absurd (false≢true t);
-          cut = λ t. absurd (false≢true t);
-          lasts = λ t. omega (arith, result.1, searching.lasts);
-          outcome = λ t. sym result.0;
-          count = λ t. b ∙ sym result.1;
-          found = λ t q. absurd (let z : ◌≡◌ {A = ℕ} 0 1 = cc in omega arith);
+          spent = λ e t. cc;
+          given = given_ok (record {
+            lasts = omega (arith, result.1, searching.lasts);
+            outcome = sym result.0;
+            count = b ∙ sym result.1;
+            found = λ q. absurd (let z : ◌≡◌ {A = ℕ} 0 1 = cc in omega arith);
+          });
           fewest = fewest;
         }
 
     -- it is none, the budget is not used up, and what is left of the allowance is
-    pub answered_spent : (IsGoal (problem_at s w₀) v → ⊥) → (count ≡ budget → ⊥) → count ≡ left
-        → Answered s limit budget left w₀ w (record { spent = true; outcome = Over; count = count; place = 0 })
+    pub answered_spent : (IsGoal (problem_at s w₀) v → ⊥) → (count ≡ budget → ⊥) → count ≡ left → (e : Spent)
+        → Answered s limit budget left w₀ w (Err e)
     unfolding p label
-    answered_spent no_goal b l =
+    answered_spent no_goal b l e =
         record {
           same_map = searching.same_map;
           ready = ready;
-          spent = λ t. spent_cost p valid limit label settled front v d budget left first no_goal (counted ∙ l) (omega (arith, searching.in_budget));
-          cut = λ t. l;
-          lasts = λ t. absurd (false≢true (sym t));
-          outcome = λ t. absurd (false≢true (sym t));
-          count = λ t. absurd (false≢true (sym t));
-          found = λ t q. absurd (false≢true (sym t));
-          fewest = fewest;
+          spent = λ x t. spent_cost p valid limit label settled front v d budget left first no_goal (counted ∙ l) (omega (arith, searching.in_budget));
+          given = λ a t. cc;
+          fewest = subst (λ (x : ℕ). FewestFound p limit (IsExpanded n x w) label (depth_word n w)) l fewest;
         }

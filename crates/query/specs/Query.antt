@@ -1,5 +1,5 @@
 -- What one query asks of the area and leaves in it.
-use Rattle.std.specs.Prelude.{◌≡◌, true, false, List, ℕ, ◌^◌, ◌≤◌, ◌<◌, length, drop}
+use Rattle.std.specs.Prelude.{◌≡◌, Result, Ok, Err, List, ℕ, ◌^◌, ◌≤◌, ◌<◌, length, drop}
 use Rattle.std.proofs.Math.Option.{some}
 use Rattle.open_list.specs.Keys.{Used}
 use Rattle.map.specs.declared.Site.{Site}
@@ -17,6 +17,7 @@ use Rattle.query.specs.Open.{open_words}
 use Rattle.query.specs.declared.Outcome.{Outcome}
 use Rattle.query.specs.declared.Outcome.TheVariants.{Ended, Over, Found, None}
 use Rattle.query.specs.declared.Asked.{Asked}
+use Rattle.query.specs.declared.Spent.{Spent}
 
 -- the code's outcome in document 01's words
 abbrev pub outcome_of : Outcome → model.Outcome
@@ -66,17 +67,25 @@ pub record FoundAt (p : Problem) (limit place : ℕ) (w : List ℕ) : Type 0 whe
 abbrev pub IsExpanded : (n count : ℕ) (w : List ℕ) → ℕ → Type 0
 IsExpanded n count w v = (i : ℕ) × (i < count) × (listed_at n w i ≡ v)
 
+-- what is given where the allowance lasts: the query's outcome and cost are the definition's
+pub record Given (p : Problem) (limit budget left : ℕ) (w : List ℕ) (a : Asked) : Type 0 where
+  pub lasts : (query p limit budget).cost ≤ left
+  pub outcome : outcome_of a.outcome ≡ (query p limit budget).outcome
+  pub count : a.count ≡ (query p limit budget).cost
+  pub found : a.outcome ≡ Found → FoundAt p limit a.place w
+
+-- what a query has counted: where it is cut, what was left
+abbrev pub counted : ℕ → Result Asked Spent → ℕ
+counted left (Ok a) = a.count
+counted left (Err e) = left
+
 -- The query's outcome and cost are the definition's, unless it costs more than is left; where it is cut, it has counted what was left. The
 -- map is as before, and the open list is ready for the next query. After as many expansions as it has counted, whatever its budget and what was
 -- left, each label is the least cost of a path found and each depth the fewest arcs at that cost.
-pub record Answered (s : Site) (limit budget left : ℕ) (w₀ w : List ℕ) (r : Asked) : Type 0 where
+pub record Answered (s : Site) (limit budget left : ℕ) (w₀ w : List ℕ) (r : Result Asked Spent) : Type 0 where
   pub same_map : drop (ends_at s.places) w ≡ drop (ends_at s.places) w₀
   pub ready : Ready s.places w
-  pub spent : r.spent ≡ true → left < (query (problem_at s w₀) limit budget).cost
-  pub cut : r.spent ≡ true → r.count ≡ left
-  pub lasts : r.spent ≡ false → (query (problem_at s w₀) limit budget).cost ≤ left
-  pub outcome : r.spent ≡ false → outcome_of r.outcome ≡ (query (problem_at s w₀) limit budget).outcome
-  pub count : r.spent ≡ false → r.count ≡ (query (problem_at s w₀) limit budget).cost
-  pub found : r.spent ≡ false → r.outcome ≡ Found → FoundAt (problem_at s w₀) limit r.place w
-  pub fewest : FewestFound (problem_at s w₀) limit (IsExpanded s.places r.count w) (λ v. cost_at (labels s.places w) v)
+  pub spent : (e : Spent) → r ≡ Err e → left < (query (problem_at s w₀) limit budget).cost
+  pub given : (a : Asked) → r ≡ Ok a → Given (problem_at s w₀) limit budget left w a
+  pub fewest : FewestFound (problem_at s w₀) limit (IsExpanded s.places (counted left r) w) (λ v. cost_at (labels s.places w) v)
       (depth_word s.places w)

@@ -1,5 +1,5 @@
 -- What a query keeps in the area while it searches, and what each of its steps asks and does.
-use Rattle.std.specs.Prelude.{◌≡◌, ◌⊎◌, true, false, cond, List, ℕ, ◌+◌, ◌^◌, ◌≤◌, ◌<◌, ltb, length, get_or, set, drop}
+use Rattle.std.specs.Prelude.{◌≡◌, ◌⊎◌, true, cond, List, ℕ, ◌+◌, ◌^◌, ◌≤◌, ◌<◌, ltb, length, get_or, set, drop}
 use Rattle.std.proofs.Math.Option.{none}
 use Rattle.open_list.specs.Entry.{no_key}
 use Rattle.open_list.specs.Keys.{OpenList, CanLower, Cleared}
@@ -161,6 +161,5 @@ pub record Searching (s : Site) (limit budget left : ℕ) (w₀ : List ℕ) (han
 
 -- what `all_settled` says: the outcome where no goal is within, by the next limit of the labels
 pub record AllSettled (s : Site) (count : ℕ) (w : List ℕ) (r : Asked) : Type 0 where
-  pub lasts : r.spent ≡ false
   pub count_is : r.count ≡ count
   pub outcome_is : outcome_of r.outcome ≡ not_over none (next_limit (problem_at s w) (labels s.places w))

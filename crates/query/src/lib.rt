@@ -19,16 +19,18 @@ pub enum Outcome {
     None,
 }
 
-// What a query gives. Where what is left of the allowance does not last, `spent` is set, `count` is what was left, and the rest says
-// nothing.
+// What a query gives that the allowance lasts for: its outcome, and the places that it expanded.
 #[derive(Clone, Copy)]
 pub struct Asked {
-    pub spent: bool,
     pub outcome: Outcome,
     pub count: u32,
-    // the goal, where one is found
+    // The goal, where one is found. It stands beside the outcome since document 01's found has no value, and a round's record carries it so.
     pub place: u32,
 }
+
+// What is left of the allowance does not last for the query, which has counted all of it.
+#[derive(Clone, Copy)]
+pub struct Spent;
 
 // Clears the words of the open list, once before all queries. Each query leaves them ready for the next.
 pub fn prepare(work: &mut [u32], site: Site)
@@ -108,33 +110,17 @@ fn relax(work: &mut [u32], n: usize, hand: u64, limit: u32, d: u32, k: u32, x: u
 }
 
 // Relaxes the arcs of u, which is expanded at cost d.
-fn expand(work: &mut [u32], site: Site, hand: u64, limit: u32, u: usize, d: u32) -> u64
+fn expand(work: &mut [u32], site: Site, mut hand: u64, limit: u32, u: usize, d: u32) -> u64
     requires { Expands site hand u d work.old }
     ensures { RowRelaxed site limit u d hand work.old result work.new }
 {
     let n = site.places;
     let k = layout::depth(work, n, u) + 1;
-    let mut h = hand;
-    let mut j = layout::row_start(work, n, u);
-    let end = layout::row_end(work, n, u);
-    while j < end {
+    for j in layout::row_start(work, n, u)..layout::row_end(work, n, u) {
         let x = layout::arc(work, n, j);
-        h = relax(work, n, h, limit, d, k, x);
-        j += 1;
+        hand = relax(work, n, hand, limit, d, k, x);
     }
-    h
-}
-
-// What a query gives.
-fn answered(spent: bool, outcome: Outcome, count: u32, place: u32) -> Asked
-    ensures { result ≡ record { spent = spent; outcome = outcome; count = count; place = place } }
-{
-    Asked {
-        spent,
-        outcome,
-        count,
-        place,
-    }
+    hand
 }
 
 // No place is open: the query ends by the least sum over arcs to places with no label, where there is one.
@@ -143,15 +129,27 @@ fn all_settled(work: &[u32], site: Site, count: u32) -> Asked
     ensures { AllSettled site count work.now result }
 {
     let next = scans::next_limit(work, site, count as usize);
-    if next == layout::NONE {
-        return answered(false, Outcome::None, count, 0);
+    let outcome = if next == layout::NONE {
+        Outcome::None
+    } else {
+        Outcome::Ended(next)
+    };
+    Asked {
+        outcome,
+        count,
+        place: 0,
     }
-    answered(false, Outcome::Ended(next), count, 0)
 }
 
 // Each turn tests for a goal before the budget, since a query's length counts the places before the first goal, and for the budget before
 // the allowance, since document 01 lets it count first.
-pub fn query(work: &mut [u32], site: Site, limit: u32, budget: u32, left: u32) -> Asked
+pub fn query(
+    work: &mut [u32],
+    site: Site,
+    limit: u32,
+    budget: u32,
+    left: u32,
+) -> Result<Asked, Spent>
     requires { Askable site limit work.old }
     ensures { Answered site limit budget left work.old work.new result }
 {
@@ -160,22 +158,30 @@ pub fn query(work: &mut [u32], site: Site, limit: u32, budget: u32, left: u32) -
     let open_end = layout::parents_at(n);
     clear(work, n);
     let mut hand = arrive(work, n, open_list::empty(), site.start as usize, 0, 0);
-    let mut count: u32 = 0;
+    let mut count = 0;
     loop {
         let first = open_list::least(&work[open_start..open_end], n, hand);
         let d = open_list::key_of(first);
         let place = open_list::place_of(first) as usize;
         if d == open_list::NONE {
-            return all_settled(work, site, count);
+            return Ok(all_settled(work, site, count));
         }
         if layout::is_goal(work, n, place) {
-            return answered(false, Outcome::Found, count, place as u32);
+            return Ok(Asked {
+                outcome: Outcome::Found,
+                count,
+                place: place as u32,
+            });
         }
         if count == budget {
-            return answered(false, Outcome::Over, count, 0);
+            return Ok(Asked {
+                outcome: Outcome::Over,
+                count,
+                place: 0,
+            });
         }
         if count == left {
-            return answered(true, Outcome::Over, count, 0);
+            return Err(Spent);
         }
         hand = settle(work, n, hand, count, place);
         hand = expand(work, site, hand, limit, place, d);

@@ -6,9 +6,8 @@ ghost use Rattle.layout.specs.Rows.{IsArcWord};
 ghost use Rattle.scans.specs.Area.{Listed, IsNextLimit, Recorded, HasParents, LowestGoal, NearestGoal};
 ghost use Rattle.scans.specs.Scans.{Crossed, LimitRow, LimitByRow, parent_stored, ParentsRow, ParentsBelow, Choosable, nearer_of};
 
+use layout::NONE;
 use map::Site;
-
-const NONE: u32 = layout::NONE;
 
 // The arc with the word x, from a place labelled d: its sum of label, cost and estimate, or `least` where that is less or its end has a label.
 fn crossing(work: &[u32], site: Site, d: u32, x: u32, least: u32) -> u32
@@ -19,7 +18,7 @@ fn crossing(work: &[u32], site: Site, d: u32, x: u32, least: u32) -> u32
     let sum = d + layout::arc_cost(x) + layout::estimate(work, site.places, v);
     let label = layout::label(work, v);
     let out = if label == NONE { sum } else { NONE };
-    if out < least { out } else { least }
+    out.min(least)
 }
 
 // The least sum over the arcs of u, which has a label, to places with none, or `least` where that is less.
@@ -30,11 +29,8 @@ fn row_limit(work: &[u32], site: Site, u: usize, least: u32) -> u32
     let n = site.places;
     let d = layout::label(work, u);
     let mut best = least;
-    let mut k = layout::row_start(work, n, u);
-    let end = layout::row_end(work, n, u);
-    while k < end {
+    for k in layout::row_start(work, n, u)..layout::row_end(work, n, u) {
         best = crossing(work, site, d, layout::arc(work, n, k), best);
-        k += 1;
     }
     best
 }
@@ -45,11 +41,9 @@ pub fn next_limit(work: &[u32], site: Site, count: usize) -> u32
     ensures { IsNextLimit site work.now result }
 {
     let mut best = NONE;
-    let mut i = 0;
-    while i < count {
+    for i in 0..count {
         let u = layout::listed(work, site.places, i);
         best = row_limit(work, site, u, best);
-        i += 1;
     }
     best
 }
@@ -83,12 +77,9 @@ fn row_parents(work: &mut [u32], site: Site, u: usize)
         return;
     }
     let arcs = layout::depth(work, n, u) + 1;
-    let mut k = layout::row_start(work, n, u);
-    let end = layout::row_end(work, n, u);
-    while k < end {
+    for k in layout::row_start(work, n, u)..layout::row_end(work, n, u) {
         let x = layout::arc(work, n, k);
         parent_by(work, n, u as u32, d, arcs, x);
-        k += 1;
     }
 }
 
@@ -99,10 +90,8 @@ pub fn parents(work: &mut [u32], site: Site)
 {
     let n = site.places;
     layout::clear_parents(work, n);
-    let mut u = 0;
-    while u < n {
+    for u in 0..n {
         row_parents(work, site, u);
-        u += 1;
     }
 }
 
@@ -130,12 +119,9 @@ pub fn nearest_goal(work: &[u32], site: Site, first: u32) -> u32
     requires { LowestGoal site first work.now }
     ensures { NearestGoal site first work.now result }
 {
-    let n = site.places;
     let mut goal = first as usize;
-    let mut v = goal + 1;
-    while v < n {
+    for v in goal + 1..site.places {
         goal = nearer(work, site, goal, v);
-        v += 1;
     }
     goal as u32
 }

@@ -1,6 +1,5 @@
 -- A turn of the rounds: from the area and the round's record as a query begins to the next turn or the end. Assumes nothing.
 use mathlib.Core.Path.{◌≡◌, refl, sym, ap, subst, subst⁻¹, ◌∙◌}
-use mathlib.Core.Bool.{Bool, true, false}
 use mathlib.Core.List.{List}
 use mathlib.Core.Option.{some}
 use Prim.Native.Nat.{ℕ, ◌+◌, ◌-◌, ◌*◌, ◌^◌, ◌≤◌, ◌<◌}
@@ -24,13 +23,15 @@ use Rattle.model.specs.Routes.{first_route}
 use Rattle.model.specs.Endings.{routed, budgeted}
 use Rattle.model.proofs.Keys.{first_goal_some}
 use Rattle.model.proofs.Laws as laws
-use Rattle.query.specs.Query.{Ready, Preparable, outcome_of, Askable, Answered, FoundAt}
+use Rattle.query.specs.Query.{Ready, Preparable, outcome_of, Askable, Given, Answered, FoundAt}
 use Rattle.query.specs.declared.Asked.{Asked}
+use Rattle.query.specs.declared.Spent as cut
 use Rattle.query.specs.declared.Outcome.{Outcome}
 use Rattle.query.specs.declared.Outcome.TheVariants.{Ended, Over, Found, None}
 use Rattle.search.specs.Rounds.{high_of, round_of, reached_by, Searched}
 use Rattle.search.specs.Underway.{BudgetFitsAfter, RoundAfter, GoalLabelled, Parented, Underway, BetweenQueries}
-use Rattle.search.specs.declared.High.TheVariants.{Unset}
+use Rattle.std.specs.Prelude as std
+use Rattle.std.specs.Prelude.{Result, Ok, Err}
 use Rattle.search.specs.declared.Reached.{Reached}
 use Rattle.search.specs.declared.Round.{Round}
 use Rattle.search.specs.declared.Verdict.{Verdict}
@@ -48,7 +49,7 @@ pub searched_same : {s : Site} {a : ℕ} {w₀ w₁ w : List ℕ} {v : Verdict} 
 searched_same {s} {a} {w₀} {w₁} same h = record { same_map = h.same_map ∙ same; means = rw (problem_same s w₁ w₀ same) at h.means }
 
 -- A query has ended: it began in the round, with t expansions after q queries, in the area w of a search that began with w₀, and left w' and r.
-pub record Turn (s : Site) (a : ℕ) (w₀ w : List ℕ) (round : Round) (t q limit : ℕ) (w' : List ℕ) (r : Asked) : Type 0 where
+pub record Turn (s : Site) (a : ℕ) (w₀ w : List ℕ) (round : Round) (t q limit : ℕ) (w' : List ℕ) (r : Result Asked cut.Spent) : Type 0 where
   pub holds : Holds s w₀
   pub between : BetweenQueries s a w₀ w round t q
   pub limit_is : limit ≡ limit_in round
@@ -66,7 +67,7 @@ module _ {s : Site} {w₀ : List ℕ} (holds : Holds s w₀) where
 
   -- the search begins in the first round
   pub begins : Ready s.places w₀ → (a low : ℕ) (o : Outcome) → low ≡ estimate_word s.places w₀ s.start
-      → BetweenQueries s a w₀ w₀ (record { low = low; high = Unset; budget = 1; outcome = o }) 0 0
+      → BetweenQueries s a w₀ w₀ (record { low = low; high = std.None; budget = 1; outcome = o }) 0 0
   unfolding first_round problem_at
   begins ready a low o e =
       record {
@@ -103,7 +104,7 @@ module _ {s : Site} {w₀ : List ℕ} (holds : Holds s w₀) where
     unfolding problem_at
     queries_below = omega (arith, query_left, laws.trace-length p holds.valid, few_places_lem s w₀ holds)
 
-module _ {s : Site} {a : ℕ} {w₀ w : List ℕ} {round : Round} {t q limit : ℕ} {w' : List ℕ} {r : Asked}
+module _ {s : Site} {a : ℕ} {w₀ w : List ℕ} {round : Round} {t q limit : ℕ} {w' : List ℕ} {r : Result Asked cut.Spent}
     (u : Turn s a w₀ w round t q limit w' r) where
   abbrev problem : Problem
   problem = problem_at s w₀
@@ -129,40 +130,29 @@ module _ {s : Site} {a : ℕ} {w₀ w : List ℕ} {round : Round} {t q limit : �
   abbrev asked : model.Query
   asked = query problem (limit_in round) round.budget
 
-  -- what was left has been counted, so that the expansions are the allowance
-  total_spent : r.spent ≡ true → t + r.count ≡ a
-  total_spent e = omega (arith, answer.cut e, under_way.lasts)
+  pub turn_spent : (e : cut.Spent) → r ≡ Err e → Searched s a w₀ w' (Spent (record { floor = round.low; expansions = a; queries = q + 1 }))
+  turn_spent e is =
+      record { same_map = kept_map; means = underway.ends_spent problem valid a under_way (rw same at (answer.spent e is)) }
 
-  -- the expansions stay within the allowance
-  pub total_within : t + r.count ≤ a
-  total_within = within r.spent refl
-    where
-      within : (b : Bool) → r.spent ≡ b → t + r.count ≤ a
-      within true e = omega (arith, total_spent e)
-      within false e = omega (arith, answer.lasts e, answer.count e, under_way.lasts)
+  module _ (g : Asked) (e : r ≡ Ok g) where
+    given : Given problem (limit_in round) round.budget (a - t) w' g
+    given = rw same at (answer.given g e)
 
-  pub turn_spent : r.spent ≡ true → Searched s a w₀ w' (Spent (record { floor = round.low; expansions = t + r.count; queries = q + 1 }))
-  turn_spent e =
-      record {
-        same_map = kept_map;
-        means = rw (total_spent e) (underway.ends_spent problem valid a under_way (rw same at (answer.spent e)));
-      }
-
-  module _ (e : r.spent ≡ false) where
     lasts : asked.cost ≤ a - t
-    lasts = rw same at (answer.lasts e)
+    lasts = given.lasts
 
-    count : r.count ≡ asked.cost
-    count = rw same at (answer.count e)
+    count : g.count ≡ asked.cost
+    count = given.count
 
-    asked_outcome : outcome_of r.outcome ≡ asked.outcome
-    asked_outcome = rw same at (answer.outcome e)
+    asked_outcome : outcome_of g.outcome ≡ asked.outcome
+    asked_outcome = given.outcome
 
-    at_goal : r.outcome ≡ Found → FoundAt problem (limit_in round) r.place w'
-    at_goal f = rw same at (answer.found e f)
+    -- the expansions stay within the allowance
+    pub total_within : t + g.count ≤ a
+    total_within = omega (arith, lasts, count, under_way.lasts)
 
     -- a round that follows is one of the trace's, so that its budget is at most the growth times the number of places
-    pub turn_fits : BudgetFitsAfter round s.growth limit r.outcome
+    pub turn_fits : BudgetFitsAfter round s.growth limit g.outcome
     unfolding next ask problem_at
     turn_fits =
         record {
@@ -174,18 +164,18 @@ module _ {s : Site} {a : ℕ} {w₀ w : List ℕ} {round : Round} {t q limit : �
         }
 
     -- the record that the query leaves has its outcome
-    module _ (left : Round) (h : RoundAfter round s.growth limit r.outcome left) where
+    module _ (left : Round) (h : RoundAfter round s.growth limit g.outcome left) where
       outcome : (o : Outcome) → left.outcome ≡ o → asked.outcome ≡ outcome_of o
       outcome o f = sym asked_outcome ∙ ap outcome_of (sym h.carries ∙ f)
 
       pub turn_no_route : left.outcome ≡ None
-          → Searched s a w₀ w' (NoRoute (record { limit = limit; expansions = t + r.count; queries = q + 1 }))
+          → Searched s a w₀ w' (NoRoute (record { limit = limit; expansions = t + g.count; queries = q + 1 }))
       unfolding problem_at
       turn_no_route f =
           record { same_map = kept_map; means = rw (u.limit_is, count) (underway.ends_no_route problem valid a under_way (outcome None f) lasts) }
 
       -- a round follows
-      onward : (x : rounds.Round) → next problem (ask problem (round_of round)) ≡ some x → BetweenQueries s a w₀ w' left (t + r.count) (q + 1)
+      onward : (x : rounds.Round) → next problem (ask problem (round_of round)) ≡ some x → BetweenQueries s a w₀ w' left (t + g.count) (q + 1)
       unfolding next ask problem_at
       onward x f =
           let is : round_of left ≡ x = h.next x (rw (u.limit_is, asked_outcome) f) in
@@ -196,40 +186,40 @@ module _ {s : Site} {a : ℕ} {w₀ w : List ℕ} {round : Round} {t q limit : �
             underway = rw (count, h.carries, asked_outcome, is) (underway.goes_on problem valid a under_way x f lasts);
           }
 
-      pub turn_ended : {x : ℕ} → left.outcome ≡ Ended x → BetweenQueries s a w₀ w' left (t + r.count) (q + 1)
+      pub turn_ended : {x : ℕ} → left.outcome ≡ Ended x → BetweenQueries s a w₀ w' left (t + g.count) (q + 1)
       turn_ended {x} f = onward _ (underway.after_ended problem (round_of round) x (outcome (Ended x) f))
 
-      pub turn_over : left.outcome ≡ Over → BetweenQueries s a w₀ w' left (t + r.count) (q + 1)
+      pub turn_over : left.outcome ≡ Over → BetweenQueries s a w₀ w' left (t + g.count) (q + 1)
       turn_over f = onward _ (underway.after_over problem (round_of round) (outcome Over f))
 
       module _ (f : left.outcome ≡ Found) where
-        goal : FoundAt problem (limit_in round) r.place w'
-        goal = at_goal (sym h.carries ∙ f)
+        goal : FoundAt problem (limit_in round) g.place w'
+        goal = given.found (sym h.carries ∙ f)
 
-        g : Key
-        g = record { cost = goal.cost; place = r.place }
+        key : Key
+        key = record { cost = goal.cost; place = g.place }
 
         room : s.places ≤ length w'
         room = omega (arith, map_room s w₀ u.holds, kept-length)
 
-        goal_label : cost_at (labels s.places w') r.place ≡ some goal.cost
-        unfolding problem_at g
+        goal_label : cost_at (labels s.places w') g.place ≡ some goal.cost
+        unfolding problem_at key
         goal_label =
-            let entry = (first_goal_some problem (table problem (limit_in round)) g goal.is_first).entry in
-            goal.agrees.entry_label r.place goal.cost entry (le_refl goal.cost)
+            let entry = (first_goal_some problem (table problem (limit_in round)) key goal.is_first).entry in
+            goal.agrees.entry_label g.place goal.cost entry (le_refl goal.cost)
 
-        pub turn_goal : GoalLabelled s r.place w'
-        unfolding problem_at g
+        pub turn_goal : GoalLabelled s g.place w'
+        unfolding problem_at key
         turn_goal =
             let holds = holds_same s w' w₀ kept_map kept-length u.holds in
             let same = problem_same s w' w₀ kept_map in
-            let first = first_goal_some problem (table problem (limit_in round)) g goal.is_first in
-            let own = label_is s.places w' room r.place goal.cost goal_label in
+            let first = first_goal_some problem (table problem (limit_in round)) key goal.is_first in
+            let own = label_is s.places w' room g.place goal.cost goal_label in
             record {
               recorded = record { labelled = record { holds = holds; label_below = goal.label_below }; depth_below = goal.depth_below };
               lowest = record {
                 holds = holds;
-                is_goal = subst⁻¹ (λ (x : Problem). IsGoal x r.place) same first.is_goal;
+                is_goal = subst⁻¹ (λ (x : Problem). IsGoal x g.place) same first.is_goal;
                 lowest = λ h i l.
                     let is = subst (λ (x : Problem). IsGoal x h) same i in
                     let label = is_label s.places w' room h goal.cost (record {
@@ -244,20 +234,20 @@ module _ {s : Site} {a : ℕ} {w₀ w : List ℕ} {round : Round} {t q limit : �
             }
 
         -- goal and parents are found, and the area is w''
-        module _ (w'' : List ℕ) (v : Verdict) (parented : Parented s r.place limit (t + r.count) (q + 1) w' w'' v) where
+        module _ (w'' : List ℕ) (v : Verdict) (parented : Parented s g.place limit (t + g.count) (q + 1) w' w'' v) where
           route : List ℕ
-          route = first_route problem (table problem (limit_in round)) g
+          route = first_route problem (table problem (limit_in round)) key
 
           same-cost : goal.cost ≡ parented.cost
           same-cost = let found = goal_label in let label = parented.label in cc
 
           reached : Reached
-          reached = record { cost = parented.cost; goal = parented.goal; limit = limit; expansions = t + r.count; queries = q + 1 }
+          reached = record { cost = parented.cost; goal = parented.goal; limit = limit; expansions = t + g.count; queries = q + 1 }
 
           ends : budgeted problem a ≡ routed (reached_by route reached)
-          unfolding g route reached
+          unfolding key route reached
           ends =
-              underway.ends_routed problem valid a under_way (outcome Found f) lasts g goal.is_first
+              underway.ends_routed problem valid a under_way (outcome Found f) lasts key goal.is_first
               ∙ (λ i. routed (record {
                 cost = same-cost i;
                 places = route;
@@ -267,8 +257,8 @@ module _ {s : Site} {a : ℕ} {w₀ w : List ℕ} {round : Round} {t q limit : �
               }))
 
           pub turn_routed : Searched s a w₀ w'' v
-          unfolding g route reached
+          unfolding key route reached
           turn_routed =
               let follows =
-              follows_route s (limit_in round) r.place parented.goal w₀ w' w'' valid kept_map room goal parented.parents parented.nearest in
+              follows_route s (limit_in round) g.place parented.goal w₀ w' w'' valid kept_map room goal parented.parents parented.nearest in
               record { same_map = parented.parents.same_map ∙ kept_map; means = rw parented.verdict (route, ends, follows) }

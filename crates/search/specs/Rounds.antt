@@ -1,5 +1,6 @@
 -- How the code's rounds and endings stand for the definitions'.
-use Rattle.std.specs.Prelude.{◌≡◌, List, ℕ, drop}
+use Rattle.std.specs.Prelude as std
+use Rattle.std.specs.Prelude.{◌≡◌, List, ℕ, drop, Some, None}
 use Rattle.std.proofs.Math.Option.{Option, none, some}
 use Rattle.map.specs.declared.Site.{Site}
 use Rattle.layout.specs.Regions.{ends_at}
@@ -8,8 +9,6 @@ use Rattle.layout.specs.Labels.{Follows}
 use Rattle.model.specs.Rounds as model
 use Rattle.model.specs.Endings as endings
 use Rattle.model.specs.Endings.{Ending, budgeted}
-use Rattle.search.specs.declared.High.{High}
-use Rattle.search.specs.declared.High.TheVariants.{Unset, At}
 use Rattle.search.specs.declared.Round.{Round}
 use Rattle.search.specs.declared.CutShort.{CutShort}
 use Rattle.search.specs.declared.NoGoal.{NoGoal}
@@ -17,9 +16,10 @@ use Rattle.search.specs.declared.Reached.{Reached}
 use Rattle.search.specs.declared.Verdict.{Verdict}
 use Rattle.search.specs.declared.Verdict.TheVariants.{Spent, NoRoute, Routed}
 
-abbrev pub high_of : High → Option ℕ
-high_of Unset = none
-high_of (At h) = some h
+-- high, none while it is unset, as the definitions have it
+abbrev pub high_of : std.Option ℕ → Option ℕ
+high_of None = none
+high_of (Some h) = some h
 
 -- the outcome that the record carries besides is that of the query before
 abbrev pub round_of : Round → model.Round

@@ -15,19 +15,18 @@ use Rattle.scans.specs.Area.{Recorded, HasParents, LowestGoal, NearestGoal}
 use Rattle.query.specs.Query.{Ready, outcome_of}
 use Rattle.query.specs.declared.Outcome.{Outcome}
 use Rattle.search.specs.Rounds.{high_of, round_of}
-use Rattle.search.specs.declared.High.{High}
 use Rattle.search.specs.declared.Round.{Round}
 use Rattle.search.specs.declared.Verdict.{Verdict}
 use Rattle.search.specs.declared.Verdict.TheVariants.{Routed}
 
 -- what `settle` asks: the next round's budget, grown where the round closes, fits a word
-pub record BudgetFits (growth low : ℕ) (high : High) (budget : ℕ) : Type 0 where
-  pub fits : (model.settle growth low (high_of high) budget).budget < 2 ^ 32
+pub record BudgetFits (growth : ℕ) (round : Round) : Type 0 where
+  pub fits : (model.settle growth round.low (high_of round.high) round.budget).budget < 2 ^ 32
 
--- what it gives: the next round, in the terms of document 01, and the outcome that its record carries
-pub record NextRound (growth low : ℕ) (high : High) (budget : ℕ) (outcome : Outcome) (r : Round) : Type 0 where
-  pub round : round_of r ≡ model.settle growth low (high_of high) budget
-  pub carries : r.outcome ≡ outcome
+-- what it gives: the next round, in the terms of document 01, with the outcome that the record carried
+pub record NextRound (growth : ℕ) (before r : Round) : Type 0 where
+  pub round : round_of r ≡ model.settle growth before.low (high_of before.high) before.budget
+  pub carries : r.outcome ≡ before.outcome
 
 -- what `after` asks: where a round follows the query, its budget fits a word
 pub record BudgetFitsAfter (round : Round) (growth limit : ℕ) (outcome : Outcome) : Type 0 where

@@ -6,23 +6,16 @@ ghost use Rattle.std.specs.Prelude.{◌≡◌, ◌^◌, ◌<◌};
 ghost use Rattle.model.specs.Rounds.{limit_of};
 ghost use Rattle.layout.specs.Map.{Holds};
 ghost use Rattle.search.specs.Rounds.{Searched, high_of};
-ghost use Rattle.search.specs.declared.Verdict.TheVariants.{Spent, NoRoute};
 ghost use Rattle.search.specs.Underway.{BudgetFits, NextRound, BudgetFitsAfter, RoundAfter, GoalLabelled, Parented};
 
 use map::Site;
 use query::Outcome;
 
-#[derive(Clone, Copy)]
-pub enum High {
-    Unset,
-    At(u32),
-}
-
 // The round's record, made anew as each query ends, with that query's outcome.
 #[derive(Clone, Copy)]
 pub struct Round {
     pub low: u32,
-    pub high: High,
+    pub high: Option<u32>,
     pub budget: u32,
     pub outcome: Outcome,
 }
@@ -59,85 +52,51 @@ pub struct Reached {
 }
 
 // The limit of the next query.
-fn limit_of(low: u32, high: High) -> u32
+#[tactic(auto, unfolding(model::specs::Rounds::limit_of))]
+fn limit_of(low: u32, high: Option<u32>) -> u32
     requires { limit_of low (high_of high) < 2 ^ 30 }
     ensures { result ≡ limit_of low (high_of high) }
 {
     match high {
-        High::Unset => 2 * low,
-        High::At(h) => (low + h) / 2,
+        None => 2 * low,
+        Some(high) => (low + high) / 2,
     }
 }
 
 // The next round's record: where low equals high the round closes, the budget grows and high is unset.
-fn settle(low: u32, high: High, budget: u32, growth: u32, outcome: Outcome) -> Round
-    requires { BudgetFits growth low high budget }
-    ensures { NextRound growth low high budget outcome result }
+#[tactic(auto, unfolding(model::specs::Rounds::settle, model::specs::Rounds::close_if))]
+fn settle(round: Round, growth: u32) -> Round
+    requires { BudgetFits growth round }
+    ensures { NextRound growth round result }
 {
-    match high {
-        High::Unset => Round {
-            low,
-            high: High::Unset,
-            budget,
-            outcome,
-        },
-        High::At(h) => {
-            if low == h {
-                return Round {
-                    low,
-                    high: High::Unset,
-                    budget: growth * budget,
-                    outcome,
-                };
-            }
-            Round {
-                low,
-                high: High::At(h),
-                budget,
-                outcome,
-            }
-        }
+    if round.high == Some(round.low) {
+        return Round {
+            high: None,
+            budget: growth * round.budget,
+            ..round
+        };
     }
+    round
 }
 
 // The record that a query leaves. Ended sets low to its number, over sets high to the limit; found and none finish the search.
+#[tactic(auto, unfolding(model::specs::Rounds::after))]
 fn after(round: Round, growth: u32, limit: u32, outcome: Outcome) -> Round
     requires { BudgetFitsAfter round growth limit outcome }
     ensures { RoundAfter round growth limit outcome result }
 {
-    let high = round.high;
-    let same = Round {
-        low: round.low,
-        high,
-        budget: round.budget,
-        outcome,
-    };
+    let same = Round { outcome, ..round };
     match outcome {
-        Outcome::Ended(next) => settle(next, high, round.budget, growth, outcome),
-        Outcome::Over => settle(round.low, High::At(limit), round.budget, growth, outcome),
-        Outcome::Found => same,
-        Outcome::None => same,
+        Outcome::Ended(next) => settle(Round { low: next, ..same }, growth),
+        Outcome::Over => settle(
+            Round {
+                high: Some(limit),
+                ..same
+            },
+            growth,
+        ),
+        Outcome::Found | Outcome::None => same,
     }
-}
-
-fn cut_short(floor: u32, expansions: u32, queries: u32) -> Verdict
-    ensures { result ≡ Spent (record { floor = floor; expansions = expansions; queries = queries }) }
-{
-    Verdict::Spent(CutShort {
-        floor,
-        expansions,
-        queries,
-    })
-}
-
-fn no_goal(limit: u32, expansions: u32, queries: u32) -> Verdict
-    ensures { result ≡ NoRoute (record { limit = limit; expansions = expansions; queries = queries }) }
-{
-    Verdict::NoRoute(NoGoal {
-        limit,
-        expansions,
-        queries,
-    })
 }
 
 // The goals at the cost of the first one, which ended the query, are compared; the parents lead back from the one that comes first.
@@ -172,33 +131,35 @@ pub fn search(work: &mut [u32], site: Site, allowance: u32) -> Verdict
     // No query yet; its outcome is read by nobody.
     let mut round = Round {
         low: layout::estimate(work, site.places, site.start as usize),
-        high: High::Unset,
+        high: None,
         budget: 1,
         outcome: Outcome::Over,
     };
-    let mut expansions: u32 = 0;
-    let mut queries: u32 = 0;
+    let mut expansions = 0;
+    let mut queries = 0;
     loop {
-        let high = round.high;
-        let limit = limit_of(round.low, high);
+        let limit = limit_of(round.low, round.high);
         queries += 1;
-        let asked = query::query(work, site, limit, round.budget, allowance - expansions);
+        let Ok(asked) = query::query(work, site, limit, round.budget, allowance - expansions) else {
+            // The query has counted all that was left.
+            return Verdict::Spent(CutShort {
+                floor: round.low,
+                expansions: allowance,
+                queries,
+            });
+        };
         expansions += asked.count;
-        if asked.spent {
-            return cut_short(round.low, expansions, queries);
-        }
-        let outcome = asked.outcome;
-        round = after(round, site.growth, limit, outcome);
-        let outcome = round.outcome;
-        match outcome {
-            Outcome::Found => {
-                return found(work, site, asked.place, limit, expansions, queries);
-            }
+        round = after(round, site.growth, limit, asked.outcome);
+        match round.outcome {
+            Outcome::Found => return found(work, site, asked.place, limit, expansions, queries),
             Outcome::None => {
-                return no_goal(limit, expansions, queries);
+                return Verdict::NoRoute(NoGoal {
+                    limit,
+                    expansions,
+                    queries,
+                });
             }
-            Outcome::Ended(_) => {}
-            Outcome::Over => {}
+            Outcome::Ended(_) | Outcome::Over => {}
         }
     }
 }

@@ -8,11 +8,11 @@ use Rattle.open_list.proofs.reset.Goals as goal
 pub least-root-requires : goal.least-root-requires
 least-root-requires c = tree_of _ _ _ c.requires.list
 
-pub returns-then-key_of : goal.returns-then-key_of
-returns-then-key_of c =
+pub returns-then-high : goal.returns-then-high
+returns-then-high c =
     let least = c.least-root.ensures in
     let tree = tree_of _ _ _ c.requires.list in
-    cleared _ _ (keyless _ _ _ _ tree least (omega (arith, c.key_of.ensures)) (λ i. (c.slice_known-1.given i).fits))
+    cleared _ _ (keyless _ _ _ _ tree least (omega (arith, c.high.ensures)) (λ i. (c.slice_known-1.given i).fits))
 
 pub clear-requires : goal.clear-requires
 clear-requires c = (tree_of _ _ _ c.requires.list).shape.room

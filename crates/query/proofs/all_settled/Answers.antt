@@ -3,7 +3,7 @@ use Rattle.query.proofs.Answers.{ended-none, ended_next}
 use Rattle.query.proofs.all_settled.Goals as goal
 
 pub returns-then-next : goal.returns-then-next
-returns-then-next c = rw c.answered.ensures (ended-none _ _ _ _ c.next_limit-next.ensures c.if-next.true)
+returns-then-next c = ended-none _ _ _ _ c.next_limit-next.ensures c.if-next.true
 
-pub returns : goal.returns
-returns c = rw c.answered-2.ensures (ended_next _ _ _ _ c.next_limit-next.ensures c.if-next.false)
+pub returns-else-next : goal.returns-else-next
+returns-else-next c = ended_next _ _ _ _ c.next_limit-next.ensures c.if-next.false

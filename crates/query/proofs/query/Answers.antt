@@ -41,11 +41,11 @@ under c = searching c.requires c.clear.ensures c.arrive-hand.ensures c.loop-work
 -- where the first of the open list is a place, and where it is none
 taken : (c : Else-d)
     → (let a = c.args in let l = c.loop-work in
-    Taken a.site a.limit a.budget a.left c.arrive-hand.new.work l.hand l.work l.count c.place_of-place.result c.key_of-d.result)
+    Taken a.site a.limit a.budget a.left c.arrive-hand.new.work l.hand l.work l.count c.low-place.result c.high-d.result)
 unfolding part
 taken c =
     let search = searching c.requires c.clear.ensures c.arrive-hand.ensures c.loop-work.invariant in
-    let first = rw (← c.place_of-place.ensures, ← c.key_of-d.ensures) at c.least-first.ensures in
+    let first = rw (← c.low-place.ensures, ← c.high-d.ensures) at c.least-first.ensures in
     underway.taken _ search _ _ c.open_at-open_start.ensures c.parents_at-open_end.ensures _ _ first (omega (arith, c.if-d.false))
 
 none_open : (c : Then-d)
@@ -53,7 +53,7 @@ none_open : (c : Then-d)
 unfolding part
 none_open c =
     let search = searching c.requires c.clear.ensures c.arrive-hand.ensures c.loop-work.invariant in
-    let first = rw (← c.place_of-place.ensures, ← c.key_of-d.ensures) at c.least-first.ensures in
+    let first = rw (← c.low-place.ensures, ← c.high-d.ensures) at c.least-first.ensures in
     underway.none_open _ search _ _ c.open_at-open_start.ensures c.parents_at-open_end.ensures _ _ first (omega (arith, c.if-d.true))
 
 pub open_at-open_start-requires : goal.open_at-open_start-requires
@@ -95,21 +95,21 @@ returns-then-is_goal c =
     let t = (taken (goal.at.returns-then-is_goal c).Else-d) in
     let reached = underway.taken_goal _ t (sym c.is_goal.ensures ∙ c.if-is_goal.true) in
     let answered = answers.answered_goal t.under t.first reached in
-    rw c.answered.ensures (answers.answered_same _ _ _ _ _ _ _ _ (same_map (goal.at.returns-then-is_goal c).After-slice_known-3-1) answered)
+    answers.answered_same _ _ _ _ _ _ _ _ (same_map (goal.at.returns-then-is_goal c).After-slice_known-3-1) answered
 
 pub returns-then-count-budget : goal.returns-then-count-budget
 returns-then-count-budget c =
     let t = (taken (goal.at.returns-then-count-budget c).Else-d) in
     let no_goal = underway.taken_no_goal _ t (sym c.is_goal.ensures ∙ c.if-is_goal.false) in
     let answered = answers.answered_over t.under t.first no_goal c.if-count-budget.true in
-    rw c.answered-then-count-budget.ensures (answers.answered_same _ _ _ _ _ _ _ _ (same_map (goal.at.returns-then-count-budget c).After-slice_known-3-1) answered)
+    answers.answered_same _ _ _ _ _ _ _ _ (same_map (goal.at.returns-then-count-budget c).After-slice_known-3-1) answered
 
 pub returns-then-count-left : goal.returns-then-count-left
 returns-then-count-left c =
     let t = (taken (goal.at.returns-then-count-left c).Else-d) in
     let no_goal = underway.taken_no_goal _ t (sym c.is_goal.ensures ∙ c.if-is_goal.false) in
-    let answered = answers.answered_spent t.under t.first no_goal c.if-count-budget.false c.if-count-left.true in
-    rw c.answered-then-count-left.ensures (answers.answered_same _ _ _ _ _ _ _ _ (same_map (goal.at.returns-then-count-left c).After-slice_known-3-1) answered)
+    let answered = answers.answered_spent t.under t.first no_goal c.if-count-budget.false c.if-count-left.true _ in
+    answers.answered_same _ _ _ _ _ _ _ _ (same_map (goal.at.returns-then-count-left c).After-slice_known-3-1) answered
 
 pub settle-hand-requires : goal.settle-hand-requires
 settle-hand-requires c = expansions.turn_settles (taken (goal.at.settle-hand-requires c).Else-d)

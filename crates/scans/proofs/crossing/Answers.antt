@@ -2,7 +2,8 @@
 use mathlib.Core.Bool.{cond}
 use native.Mathlib.Omega.{arith}
 use lib.Dec.{ltb}
-use borrow.Author.Tests.{lt-ltb, le-ltb}
+use Rattle.std.proofs.Common.{◌≡◌, ℕ, min}
+use Rattle.std.proofs.lemmas.Bool.Decides.{nat_tests}
 use Rattle.scans.specs.Scans.{Crossed}
 use Rattle.scans.proofs.NextLimit.{not_crossed, crossed}
 use Rattle.scans.proofs.crossing.Goals.{Joined-label, then-label, else-label}
@@ -19,8 +20,8 @@ lowered c =
       | else-label w ↦ not_crossed _ _ _ _ _ _ c.requires (omega (arith, c.ranges.least)) (rw label at w.if-label.false) w.out-is
     ]
 
-pub returns-then-out-least : goal.returns-then-out-least
-returns-then-out-least c = rw (lt-ltb _ _ c.if-out-least.true) at (lowered (goal.at.returns-then-out-least c).Joined-label)
+min_is : (a b : ℕ) → min a b ≡ cond (ltb a b) a b
+min_is a b = grind (arith, nat_tests)
 
-pub returns-else-out-least : goal.returns-else-out-least
-returns-else-out-least c = rw (le-ltb _ _ c.if-out-least.false) at (lowered (goal.at.returns-else-out-least c).Joined-label)
+pub returns : goal.returns
+returns c = rw (c.min.ensures, min_is c.if-label.out c.args.least) (lowered (goal.at.returns c).Joined-label)

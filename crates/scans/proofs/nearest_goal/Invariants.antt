@@ -1,11 +1,6 @@
--- The invariant of the loop: of the goals below v with the label of `first`, `goal` comes first by depth, then by number. The measure is what
--- is left of the places. Assumes nothing.
-use Prim.Native.Nat.{◌-◌}
+-- The invariant of the loop: of the goals below v with the label of `first`, `goal` comes first by depth, then by number. Assumes nothing.
 use Rattle.scans.specs.Scans.{Choosing}
 use Rattle.scans.proofs.nearest_goal.Given as goal
 
 abbrev pub invariant-loop-v : goal.invariant-loop-v
 invariant-loop-v l = Choosing l.site l.first l.work l.goal l.v
-
-abbrev pub decreases-loop-v : goal.decreases-loop-v
-decreases-loop-v l = l.n - l.v

@@ -1,11 +1,6 @@
--- The invariant of the loop: best is the least sum over the rows of the first i places of the list. The measure is what is left of the
--- list. Assumes nothing.
-use Prim.Native.Nat.{◌-◌}
+-- The invariant of the loop: best is the least sum over the rows of the first i places of the list. Assumes nothing.
 use Rattle.scans.specs.Scans.{LimitUpTo}
 use Rattle.scans.proofs.next_limit.Given as goal
 
 abbrev pub invariant-loop-i : goal.invariant-loop-i
 invariant-loop-i l = LimitUpTo l.site l.count l.i l.best l.work
-
-abbrev pub decreases-loop-i : goal.decreases-loop-i
-decreases-loop-i l = l.count - l.i

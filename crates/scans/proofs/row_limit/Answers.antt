@@ -2,7 +2,7 @@ use Rattle.scans.proofs.NextLimit.{limiting_start, limiting_arc, limiting_step, 
 use Rattle.scans.proofs.row_limit.Goals as goal
 
 pub loop-k-init : goal.loop-k-init
-loop-k-init c = limiting_start _ _ _ c.requires _ _ _ c.row_start-k.ensures c.row_end-end.ensures
+loop-k-init c = limiting_start _ _ _ c.requires _ _ _ c.row_start-k.ensures c.row_end-k-end.ensures
 
 pub crossing-best-requires : goal.crossing-best-requires
 crossing-best-requires c =

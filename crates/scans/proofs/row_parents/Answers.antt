@@ -21,7 +21,7 @@ overflow_add-arcs c =
     omega (arith, c.depth-arcs.ensures, c.requires.recorded.depth_below _ _ (label (goal.at.overflow_add-arcs c).Else-d))
 
 pub loop-k-init : goal.loop-k-init
-loop-k-init c = parenting_start _ _ _ c.requires _ _ c.row_start-k.ensures c.row_end-end.ensures
+loop-k-init c = parenting_start _ _ _ c.requires _ _ c.row_start-k.ensures c.row_end-k-end.ensures
 
 pub parent_by-requires : goal.parent_by-requires
 parent_by-requires c =

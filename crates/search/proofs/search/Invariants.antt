@@ -8,8 +8,8 @@ use Rattle.model.specs.Rounds.{trace}
 use Rattle.search.specs.Underway.{BetweenQueries}
 use Rattle.search.proofs.search.Given as goal
 
-abbrev pub invariant-loop-site : goal.invariant-loop-site
-invariant-loop-site l = BetweenQueries l.site l.allowance l.initial.work l.work l.round l.expansions l.queries
+abbrev pub invariant-loop-asked : goal.invariant-loop-asked
+invariant-loop-asked l = BetweenQueries l.site l.allowance l.initial.work l.work l.round l.expansions l.queries
 
-abbrev pub decreases-loop-site : goal.decreases-loop-site
-decreases-loop-site l = length (trace (problem_at l.site l.initial.work)) - l.queries
+abbrev pub decreases-loop-asked : goal.decreases-loop-asked
+decreases-loop-asked l = length (trace (problem_at l.site l.initial.work)) - l.queries
