@@ -1,31 +1,27 @@
 -- Records put into the output area one after another: what is left to be put, in a loop over the words and in a whole map. Assumes nothing.
 use mathlib.Core.Path.{◌≡◌, refl, ap, ◌∙◌}
+use mathlib.Core.Logic.{◌≢◌}
 use mathlib.Core.List.{List, [], ◌∷◌, ◌++◌, flat_map, append_assoc}
 use Prim.Native.Nat.{ℕ, suc, ◌+◌, ◌*◌, ◌≤◌, ◌<◌}
 use native.Mathlib.Numerals.{add-one}
 use native.Mathlib.Omega.{arith}
 use lib.ListN.{length, get_or, drop, length-append, length-drop, drop_of_length-le}
-use lib.Seq.{sets, length-sets, drop-cons}
+use lib.Seq.{length-sets, drop-cons}
+use borrow.Author.Tests.{eq-eqb, ne_eqb}
 use Rattle.area.specs.Part.{part}
 use Rattle.area.proofs.Parts.{part_length}
-use Rattle.area.proofs.Sets.{sets_then}
-use Rattle.model.specs.Bytes.{put16}
+use Rattle.model.specs.Bytes.{put16, put16s}
 use Rattle.model.specs.Framing.{put_record}
 use Rattle.model.specs.Limits.{max_places}
-use Rattle.model.specs.Items.{estimate_kind, wait_kind}
+use Rattle.model.specs.Items.{head_kind, estimate_kind, wait_kind}
 use Rattle.model.specs.Jobs.{put_head, put_table, put_some_default, put_lane}
 use Rattle.map.specs.declared.Job.{Job}
 use Rattle.map.specs.Items.{table_at}
 use Rattle.layout.specs.Regions.{waits_at, ends_at, estimates_at, goals_at, arcs_at}
 use Rattle.sort.specs.Keys.{keys_of, key_from}
 use Rattle.lane_rows.specs.Keys.{lane_in}
-use Rattle.map_records.specs.Puts.{Put, Fits, put_lanes, put_unless, put_by_place, put_job_of, map_text, Puttable}
-use Rattle.map_records.proofs.PutRecords.{put_none}
-
--- bytes put directly after others are put with them
-pub put_then : {a b : List ℕ} {at : ℕ} {old mid out : List ℕ} {r s : ℕ} → Put a at old mid r → Put b r mid out s → Put (a ++ b) at old out s
-put_then {a} {b} {at} {old} p q =
-    record { bytes = sets_then old a b at _ p.end p.bytes q.bytes; end = omega (arith, p.end, q.end, length-append a b) }
+use Rattle.map_records.specs.Puts.{Put, Fits, put_lanes, put_value, put_unless, put_by_place, put_job_of, map_text, Puttable}
+use Rattle.map_records.proofs.PutRecords.{put_none, put_then}
 
 -- Of all that is to be put, `rest` is left: once it is put where the others end, all is put.
 pub record Putting (all rest : List ℕ) (start : ℕ) (old mid : List ℕ) (at : ℕ) : Type 0 where
@@ -54,21 +50,40 @@ module _ {all : List ℕ} {start : ℕ} {old : List ℕ} where
           whole = λ s. p.whole (rw first.split (put_then q s));
         }
 
+  -- nothing stands before what is left
+  pub same_put : {rest left mid : List ℕ} {at : ℕ} → left ≡ rest → Putting all left start old mid at → Putting all rest start old mid at
+  same_put same p = rw (← same) p
+
   pub none_left : {left mid : List ℕ} {at : ℕ} → left ≡ [] → Putting all left start old mid at → Put all start old mid at
   none_left {left} {mid} {at} none p = p.whole (rw none (put_none at mid))
 
 -- ---- Loops
 
+-- a record begins with its length and its kind
+pub record_first : (kind : ℕ) (body : List ℕ) {bytes : ℕ} → bytes ≡ length body → Begins (put_record kind body) (put16 bytes ++ put16 kind) body
+unfolding put_record
+record_first kind body is = record { split = rw is (simp append_assoc) }
+
+-- fields from number k on
+module _ (fields : List ℕ) (k : ℕ) where
+  pub fields_from : k < length fields → Begins (put16s (drop k fields)) (put16 (get_or fields k 0)) (put16s (drop (k + 1) fields))
+  unfolding put16s
+  fields_from h = record { split = rw (drop-cons fields k 0 h, add-one k) }
+
+  pub fields_done : length fields ≤ k → put16s (drop k fields) ≡ []
+  unfolding put16s
+  fields_done h = rw (drop_of_length-le fields h)
+
 -- the lanes of words from number k on
-pub lanes_from_lem : (words : List ℕ) (k : ℕ) → k + k + 1 < length words
-    → Begins (put_lanes (drop (k + k) words)) (put_lane (lane_in (key_from (get_or words (k + k) 0) (get_or words (k + k + 1) 0))))
-    (put_lanes (drop (k + 1 + (k + 1)) words))
+pub lanes_from_lem : (words : List ℕ) (k : ℕ) → 2 * k + 1 < length words
+    → Begins (put_lanes (drop (2 * k) words)) (put_lane (lane_in (key_from (get_or words (2 * k) 0) (get_or words (2 * k + 1) 0))))
+    (put_lanes (drop (2 * (k + 1)) words))
 unfolding put_lanes keys_of flat_map
 lanes_from_lem words k h =
-    let high = drop-cons words (k + k) 0 (omega arith) in
-    let low = drop-cons words (suc (k + k)) 0 (omega arith) in
-    let next : k + 1 + (k + 1) ≡ suc (suc (k + k)) = omega arith in
-    record { split = rw (high, low, next, add-one (k + k)) }
+    let high = drop-cons words (2 * k) 0 (omega arith) in
+    let low = drop-cons words (suc (2 * k)) 0 (omega arith) in
+    let next : 2 * (k + 1) ≡ suc (suc (2 * k)) = omega arith in
+    record { split = rw (high, low, next, add-one (2 * k)) }
 
 no_lanes : (words : List ℕ) → length words ≤ 1 → put_lanes words ≡ []
 unfolding put_lanes keys_of flat_map
@@ -76,17 +91,30 @@ no_lanes [] h = refl
 no_lanes (x ∷ []) h = refl
 no_lanes (x ∷ y ∷ words) h = absurd (omega arith)
 
-pub lanes_done : (words : List ℕ) (k : ℕ) → length words ≤ k + k + 1 → put_lanes (drop (k + k) words) ≡ []
-lanes_done words k h = no_lanes (drop (k + k) words) (omega (arith, length-drop (k + k) words))
+pub lanes_done : (words : List ℕ) (k : ℕ) → length words ≤ 2 * k + 1 → put_lanes (drop (2 * k) words) ≡ []
+lanes_done words k h = no_lanes (drop (2 * k) words) (omega (arith, length-drop (2 * k) words))
 
 -- the numbers of places from v on, but those that are d
 module _ (kind d : ℕ) (words : List ℕ) (v : ℕ) where
-  pub by_place_from : v < length words
-      → Begins (put_by_place kind d v (drop v words)) (put_unless kind d v (get_or words v 0)) (put_by_place kind d (v + 1) (drop (v + 1) words))
-  unfolding put_by_place
-  by_place_from h = record { split = rw (drop-cons words v 0 h, add-one v) }
+  abbrev from_here : List ℕ
+  from_here = put_by_place kind d v (drop v words)
 
-  pub by_place_done : length words ≤ v → put_by_place kind d v (drop v words) ≡ []
+  abbrev from_next : List ℕ
+  from_next = put_by_place kind d (v + 1) (drop (v + 1) words)
+
+  by_place_from : v < length words → from_here ≡ put_unless kind d v (get_or words v 0) ++ from_next
+  unfolding put_by_place
+  by_place_from h = rw (drop-cons words v 0 h, add-one v)
+
+  pub by_place_same : v < length words → (get_or words v 0 ≡ d) → from_here ≡ from_next
+  unfolding put_unless
+  by_place_same h same = by_place_from h ∙ rw (eq-eqb (get_or words v 0) d same)
+
+  pub by_place_other : v < length words → (get_or words v 0 ≢ d) → Begins from_here (put_value kind v (get_or words v 0)) from_next
+  unfolding put_unless
+  by_place_other h differs = record { split = by_place_from h ∙ rw (ne_eqb (get_or words v 0) d differs) }
+
+  pub by_place_done : length words ≤ v → from_here ≡ []
   unfolding put_by_place
   by_place_done h = rw (drop_of_length-le words h)
 
@@ -111,9 +139,9 @@ after_head input j w =
     let start = arcs_at j.site.places in
     put_lanes (part start (start + 2 * j.site.arcs) w) ++ after_lanes input j w
 
-head_first : (input : List ℕ) (j : Job) (w : List ℕ)
-    → Begins (map_text input j w) (put_head j.site.places j.site.arcs) (after_head input j w)
-unfolding map_text after_head after_lanes after_estimates after_waits after_table
+pub head_first : (input : List ℕ) (j : Job) (w : List ℕ)
+    → Begins (map_text input j w) (put_record head_kind (put16s (j.site.places ∷ j.site.arcs ∷ []))) (after_head input j w)
+unfolding map_text after_head after_lanes after_estimates after_waits after_table put_head put16s put16
 head_first input j w = record { split = simp append_assoc }
 
 -- what stands first comes next
@@ -126,15 +154,6 @@ pub part_next : (put : List ℕ → List ℕ) (w rest : List ℕ) {first last a 
 part_next put w rest is is' = record { split = rw (is, is') }
 
 module _ {input : List ℕ} {j : Job} {w out : List ℕ} (can : Puttable input j w out) where
-  pub head-fits : 8 ≤ length out
-  unfolding put_head put_record put16
-  head-fits = next_fits (head_first input j w) (all_left {old = out} can.room)
-
-  pub head_put : {mid : List ℕ} → mid ≡ sets out 0 (put_head j.site.places j.site.arcs)
-      → Putting (map_text input j w) (after_head input j w) 0 out mid 8
-  unfolding put_head put_record put16
-  head_put e = next_put (head_first input j w) (all_left {old = out} can.room) (record { bytes = e; end = refl })
-
   -- a region with a word for each place
   pub few_words : {first last a e : ℕ} → first ≡ a → last ≡ e → e ≡ a + j.site.places → e ≤ arcs_at j.site.places
       → length (part first last w) ≤ max_places

@@ -1,66 +1,29 @@
 -- Records put into the output area field after field: head, lanes as their keys say, estimates and waits, default, job. Assumes nothing.
 use mathlib.Core.Path.{◌≡◌, refl, ap, ◌∙◌}
 use mathlib.Core.Logic.{◌≢◌}
-use mathlib.Core.List.{List, [], ◌++◌}
+use mathlib.Core.List.{List, [], ◌∷◌, ◌++◌}
 use Prim.Native.Nat.{ℕ, ◌+◌, ◌-◌, ◌*◌, ◌/◌, ◌%◌, ◌<◌}
-use native.Mathlib.Numerals.{towards_suc}
 use native.Mathlib.Omega.{arith}
-use lib.ListN.{length, take, drop, length-take, length-drop}
+use lib.ListN.{length, take, drop, length-append, length-take, length-drop}
 use lib.Seq.{sets}
 use borrow.Author.Tests.{eq-eqb, ne_eqb}
 use Rattle.area.proofs.Sets.{sets_then}
 use Rattle.model.specs.Bytes.{Bytes, u16s, put16, put32, put16s}
 use Rattle.model.specs.Framing.{put_record}
-use Rattle.model.specs.Items.{arc_kind, job_kind, measured_kind, wait_kind, default_kind, arc_bytes, job_bytes, measured_bytes, default_bytes}
-use Rattle.model.specs.Jobs.{put_arc, put_measured, put_estimate, put_wait, put_default, put_some_default, put_job, put_charged, put_lane}
+use Rattle.model.specs.Items.{arc_kind, job_kind, measured_kind, default_kind, job_bytes, default_bytes}
+use Rattle.model.specs.Jobs.{put_arc, put_measured, put_default, put_some_default, put_job, put_charged, put_lane}
 use Rattle.model.proofs.Bytes.{put16s-length, u16s-length, put16s_u16s}
 use Rattle.map.specs.declared.Job.{Job}
 use Rattle.sort.specs.Keys.{key_from, word_end}
 use Rattle.lane_rows.specs.Keys.{charge_in, lane_in}
-use Rattle.map_records.specs.Puts.{Put, put_value, put_unless, put_job_of, GoalsLast}
+use Rattle.map_records.specs.Puts.{Put, put_job_of, GoalsLast}
 
 -- how long a job record is
 pub put_job_length : (start allowance : ℕ) (goals : List ℕ) → length (put_job start allowance goals) ≡ 4 + job_bytes + 2 * length goals
 unfolding put_job put_record put16 put32
 put_job_length start allowance goals = omega (arith, put16s-length goals)
 
--- ---- Fields one after another
-
--- a record's length and kind
-abbrev pub header : (bytes kind : ℕ) → List ℕ
-header bytes kind = put16 bytes ++ put16 kind
-
-pub header_fields : (at bytes kind : ℕ) (old : List ℕ) {s₁ out : List ℕ} {wide : ℕ} → s₁ ≡ sets old at (put16 bytes) → wide ≡ kind
-    → out ≡ sets s₁ (at + 2) (put16 wide) → out ≡ sets old at (header bytes kind)
-unfolding put16
-header_fields at bytes kind old e₁ same e₂ = rw (e₂, e₁, same) (simp towards_suc)
-
--- a record whose body is a field of 2 bytes and another field: a head, an estimate, a wait
-pub pair_fields : (at kind x : ℕ) (field old : List ℕ) {s₁ s₂ out : List ℕ} → s₁ ≡ sets old at (header (length (put16 x ++ field)) kind)
-    → s₂ ≡ sets s₁ (at + 4) (put16 x) → out ≡ sets s₂ (at + 6) field → out ≡ sets old at (put_record kind (put16 x ++ field))
-unfolding put_record put16
-pair_fields at kind x field old {s₂ = s₂} e₁ e₂ e₃ =
-    let front : List ℕ = header (length (put16 x ++ field)) kind ++ put16 x in
-    let first : s₂ ≡ sets old at front = rw (e₂, e₁) (simp towards_suc) in
-    sets_then old front field at (at + 6) refl first e₃
-
-pub arc_fields : (at from to cost : ℕ) (old : List ℕ) {s₁ s₂ s₃ out : List ℕ} → s₁ ≡ sets old at (header arc_bytes arc_kind)
-    → s₂ ≡ sets s₁ (at + 4) (put16 from) → s₃ ≡ sets s₂ (at + 6) (put16 to) → out ≡ sets s₃ (at + 8) (put16 cost)
-    → out ≡ sets old at (put_arc from to cost)
-unfolding put_arc put_record put16
-arc_fields at from to cost old e₁ e₂ e₃ e₄ = rw (e₄, e₃, e₂, e₁) (simp towards_suc)
-
-pub measured_fields : (at from to feet class : ℕ) (old : List ℕ) {s₁ s₂ s₃ s₄ out : List ℕ}
-    → s₁ ≡ sets old at (header measured_bytes measured_kind) → s₂ ≡ sets s₁ (at + 4) (put16 from) → s₃ ≡ sets s₂ (at + 6) (put16 to)
-    → s₄ ≡ sets s₃ (at + 8) (put16 feet)
-    → out ≡ sets s₄ (at + 10) (put16 class) → out ≡ sets old at (put_measured from to feet class)
-unfolding put_measured put_record put16
-measured_fields at from to feet class old {s₄ = s₄} e₁ e₂ e₃ e₄ e₅ =
-    let front : List ℕ = header measured_bytes measured_kind ++ put16 from ++ put16 to ++ put16 feet in
-    let first : s₄ ≡ sets old at front = rw (e₄, e₃, e₂, e₁) (simp towards_suc) in
-    sets_then old front (put16 class) at (at + 10) refl first e₅
-
--- ---- Lanes, estimates and waits
+-- ---- Bytes one after another
 
 pub put_none : (at : ℕ) (old : List ℕ) → Put [] at old old at
 put_none at old = record { bytes = refl; end = omega arith }
@@ -68,6 +31,26 @@ put_none at old = record { bytes = refl; end = omega arith }
 -- what is to be put is these bytes, and they are put
 pub put_as : {all new : List ℕ} {at : ℕ} {old out : List ℕ} → all ≡ new → out ≡ sets old at new → Put all at old out (at + length new)
 put_as is e = rw is (record { bytes = e; end = refl })
+
+-- bytes put directly after others are put with them
+pub put_then : {a b : List ℕ} {at : ℕ} {old mid out : List ℕ} {r s : ℕ} → Put a at old mid r → Put b r mid out s → Put (a ++ b) at old out s
+put_then {a} {b} {at} {old} p q =
+    record { bytes = sets_then old a b at _ p.end p.bytes q.bytes; end = omega (arith, p.end, q.end, length-append a b) }
+
+pub put_next : (b : List ℕ) {a : List ℕ} {at k r : ℕ} {old mid out : List ℕ} → Put a at old mid r → out ≡ sets mid k b → k ≡ r
+    → {s : ℕ} → s ≡ k + length b → Put (a ++ b) at old out s
+put_next b p e is end = put_then p (rw (← is, end) (put_as refl e))
+
+-- what is put may be written otherwise
+pub put_is : {a all : List ℕ} {at r : ℕ} {old out : List ℕ} → Put a at old out r → all ≡ a → Put all at old out r
+put_is p is = rw is p
+
+-- how long a record is
+pub record-length : (kind : ℕ) (body : List ℕ) → length (put_record kind body) ≡ 4 + length body
+unfolding put_record put16
+record-length kind body = omega arith
+
+-- ---- Lanes
 
 -- the lane of a key, by the bit that says whether it is measured
 module _ (high low : ℕ) (below : low < word_end) where
@@ -81,27 +64,14 @@ module _ (high low : ℕ) (below : low < word_end) where
       let low_is : key_from high low % word_end ≡ low = omega arith in
       rw (high_is, low_is)
 
-  pub flat_lane_lem : low / 32768 % 2 ≡ 0 → lane_text ≡ put_arc (high / 4096) (high % 4096) (low / 65536)
-  unfolding charge_in put_charged
+  pub flat_lane_lem : low / 32768 % 2 ≡ 0 → lane_text ≡ put_record arc_kind (put16s (high / 4096 ∷ high % 4096 ∷ low / 65536 ∷ []))
+  unfolding charge_in put_charged put_arc put16s put16
   flat_lane_lem even = lane_fields ∙ rw (eq-eqb (low / 32768 % 2) 0 even)
 
-  pub measured_lane : low / 32768 % 2 ≢ 0 → lane_text ≡ put_measured (high / 4096) (high % 4096) (low / 8 % 4096) (low % 8)
-  unfolding charge_in put_charged
+  pub measured_lane : low / 32768 % 2 ≢ 0
+      → lane_text ≡ put_record measured_kind (put16s (high / 4096 ∷ high % 4096 ∷ low / 8 % 4096 ∷ low % 8 ∷ []))
+  unfolding charge_in put_charged put_measured put16s put16
   measured_lane odd = lane_fields ∙ rw (ne_eqb (low / 32768 % 2) 0 odd)
-
--- a number of a place, by whether it is d, which holds without a record, and by the kind
-module _ (kind d v x : ℕ) where
-  pub same_left_out : x ≡ d → (at : ℕ) (old : List ℕ) → Put (put_unless kind d v x) at old old at
-  unfolding put_unless
-  same_left_out same at old = rw (eq-eqb x d same) (put_none at old)
-
-  pub wait_of_other : x ≢ d → kind ≡ wait_kind → put_unless kind d v x ≡ put_wait v x
-  unfolding put_unless put_value
-  wait_of_other differs is = rw (ne_eqb x d differs, eq-eqb kind wait_kind is)
-
-  pub estimate_of_other : x ≢ d → kind ≢ wait_kind → put_unless kind d v x ≡ put_estimate v x
-  unfolding put_unless put_value
-  estimate_of_other differs other = rw (ne_eqb x d differs, ne_eqb kind wait_kind other)
 
 -- ---- The default
 
@@ -111,18 +81,13 @@ zero_left_out x zero at old = rw (eq-eqb x 0 zero) (put_none at old)
 
 -- one that is not 0
 module _ (x : ℕ) (some : x ≢ 0) where
-  default_text : put_some_default x ≡ put_default x
-  unfolding put_some_default
+  pub default_text : put_some_default x ≡ (put16 default_bytes ++ put16 default_kind) ++ put32 x
+  unfolding put_some_default put_default put_record put16 put32
   default_text = rw (ne_eqb x 0 some)
 
   pub default-length : length (put_some_default x) ≡ 4 + default_bytes
-  unfolding put_default put_record put16 put32
+  unfolding put16 put32
   default-length = ap length default_text
-
-  pub default_fields : (at : ℕ) (old : List ℕ) {s out : List ℕ} → s ≡ sets old at (header default_bytes default_kind)
-      → out ≡ sets s (at + 4) (put32 x) → Put (put_some_default x) at old out (at + (4 + default_bytes))
-  unfolding put_default put_record put16 put32
-  default_fields at old e₁ e₂ = put_as default_text (sets_then old (header default_bytes default_kind) (put32 x) at (at + 4) refl e₁ e₂)
 
 -- ---- The job
 
@@ -134,7 +99,7 @@ job_length input j =
 
 -- all of its record but the goals
 abbrev job_front : Job → List ℕ
-job_front j = header (job_bytes + 2 * j.goals) job_kind ++ put16 j.site.start ++ put32 j.allowance ++ put16 j.goals
+job_front j = (((put16 (job_bytes + 2 * j.goals) ++ put16 job_kind) ++ put16 j.site.start) ++ put32 j.allowance) ++ put16 j.goals
 
 -- The goals are the rest of the input.
 module _ (input : List ℕ) (j : Job) (last : GoalsLast input j) where
@@ -156,14 +121,13 @@ module _ (input : List ℕ) (j : Job) (last : GoalsLast input j) where
       ap (λ (n : ℕ). put16 n ++ put16 job_kind ++ fields) size
       ∙ rw (count, bytes ∙ ap (λ (k : ℕ). take k (drop j.goals_at input)) rest)
 
-  pub job_fields : (at : ℕ) (old : List ℕ) {s₁ s₂ s₃ s₄ out : List ℕ} → Bytes input
-      → s₁ ≡ sets old at (header (job_bytes + 2 * j.goals) job_kind) → s₂ ≡ sets s₁ (at + 4) (put16 j.site.start)
-      → s₃ ≡ sets s₂ (at + 6) (put32 j.allowance) → s₄ ≡ sets s₃ (at + 10) (put16 j.goals) → out ≡ sets s₄ (at + 12) goal_bytes
-      → Put (put_job_of input j) at old out (at + 4 + (job_bytes + 2 * j.goals))
+  pub job_fields : (at : ℕ) (old : List ℕ) {r : ℕ} {s₁ s₂ s₃ s₄ out : List ℕ} → Bytes input
+      → Put (put16 (job_bytes + 2 * j.goals) ++ put16 job_kind) at old s₁ r → s₂ ≡ sets s₁ r (put16 j.site.start)
+      → s₃ ≡ sets s₂ (r + 2) (put32 j.allowance) → s₄ ≡ sets s₃ (r + 6) (put16 j.goals) → out ≡ sets s₄ (r + 8) goal_bytes
+      → Put (put_job_of input j) at old out (r + (job_bytes + 2 * j.goals))
   unfolding put16 put32
-  job_fields at old {s₃ = s₃} B e₁ e₂ e₃ e₄ e₅ =
-      let front = header (job_bytes + 2 * j.goals) job_kind ++ put16 j.site.start ++ put32 j.allowance in
-      let first : s₃ ≡ sets old at front = rw (e₃, e₂, e₁) (simp towards_suc) in
-      let next = sets_then old front (put16 j.goals) at (at + 10) refl first e₄ in
-      let whole = sets_then old (job_front j) goal_bytes at (at + 12) refl next e₅ in
-      record { bytes = whole ∙ rw (job_text B); end = omega (arith, job_length input j) }
+  job_fields at old {r} B header e₁ e₂ e₃ e₄ =
+      let start = put_next (put16 j.site.start) header e₁ refl {s = r + 2} refl in
+      let allowance = put_next (put32 j.allowance) start e₂ refl {s = r + 6} (omega arith) in
+      let goals = put_next (put16 j.goals) allowance e₃ refl {s = r + 8} (omega arith) in
+      put_is (put_next goal_bytes goals e₄ refl (omega (arith, goals-length))) (job_text B)

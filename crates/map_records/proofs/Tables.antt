@@ -1,14 +1,13 @@
 -- Tables of factors: two of them compared factor after factor, and a table put as a record where it is not the fixed one. Assumes nothing.
 use mathlib.Core.Path.{◌≡◌, refl, sym, ap, ◌∙◌}
-use mathlib.Core.Bool.{Bool, true, false, ◌&&◌, and-true, and_assoc, true≢false}
-use mathlib.Core.List.{List, ◌++◌}
-use Prim.Native.Nat.{ℕ, ◌+◌, ◌-◌, ◌*◌, ◌≤◌, ◌<◌}
-use native.Mathlib.Numerals.{add-one}
+use mathlib.Core.Bool.{Bool, true, false, ◌&&◌, true≢false}
+use mathlib.Core.List.{List, [], ◌∷◌, ◌++◌}
+use Prim.Native.Nat.{ℕ, ◌+◌, ◌-◌, ◌*◌, ◌≤◌}
 use native.Mathlib.Omega.{arith}
 use lib.Dec.{eqb}
-use lib.ListN.{length, get_or, take, drop, length-take, length-drop, drop_of_length-le}
-use lib.Seq.{sets, drop-cons}
-use Rattle.area.proofs.Sets.{sets_then}
+use lib.ListN.{length, take, drop, length-take, length-drop}
+use lib.Seq.{sets}
+use lib.Pointwise.{pointwise}
 use Rattle.model.specs.Lists.{same_numbers}
 use Rattle.model.specs.Bytes.{Bytes, u16s, put16, put16s}
 use Rattle.model.specs.Framing.{put_record}
@@ -19,37 +18,21 @@ use Rattle.model.proofs.Bytes.{put16s-length, u16s-length, put16s_u16s}
 use Rattle.map.specs.Items.{table_at, TableLies}
 use Rattle.map.proofs.Factors.{own_table, fixed_table}
 use Rattle.map_records.specs.Puts.{Put}
-use Rattle.map_records.proofs.PutRecords.{header, put_none}
+use Rattle.map_records.proofs.PutRecords.{put_none, put_next, put_is}
 
 -- ---- Compared
 
--- the numbers before i are compared: with what `same` says of them, the rest decides
-pub record Compared (xs ys : List ℕ) (i : ℕ) (same : Bool) : Type 0 where
-  pub decides : same && same_numbers (drop i xs) (drop i ys) ≡ same_numbers xs ys
+-- the two spellings of comparing number by number
+pointwise-same : (xs ys : List ℕ) → pointwise eqb xs ys ≡ same_numbers xs ys
+unfolding same_numbers
+pointwise-same [] [] = refl
+pointwise-same [] (y ∷ ys) = refl
+pointwise-same (x ∷ xs) [] = refl
+pointwise-same (x ∷ xs) (y ∷ ys) = ap (λ (t : Bool). eqb x y && t) (pointwise-same xs ys)
 
-module _ {xs ys : List ℕ} where
-  pub none_compared : Compared xs ys 0 true
-  none_compared = record { decides = refl }
-
-  pub one_compared : {i : ℕ} {same : Bool} → i < length xs → i < length ys → Compared xs ys i same
-      → Compared xs ys (i + 1) (same && eqb (get_or xs i 0) (get_or ys i 0))
-  unfolding same_numbers
-  one_compared {i} {same} h k before =
-      let rest : Bool = same_numbers (drop (i + 1) xs) (drop (i + 1) ys) in
-      let split : same_numbers (drop i xs) (drop i ys) ≡ eqb (get_or xs i 0) (get_or ys i 0) && rest
-      = rw (drop-cons xs i 0 h, drop-cons ys i 0 k, add-one i) in
-      record {
-        decides =
-            and_assoc same (eqb (get_or xs i 0) (get_or ys i 0)) rest
-            ∙ ap (λ (t : Bool). same && t) (sym split)
-            ∙ before.decides;
-      }
-
-  pub all_compared : {i : ℕ} {same : Bool} → length xs ≤ i → length ys ≤ i → Compared xs ys i same → same ≡ same_numbers xs ys
-  unfolding same_numbers
-  all_compared {i} {same} h k before =
-      let none : same_numbers (drop i xs) (drop i ys) ≡ true = rw (drop_of_length-le xs {i = i} h, drop_of_length-le ys {i = i} k) in
-      sym (and-true same) ∙ ap (λ (t : Bool). same && t) (sym none) ∙ before.decides
+-- two tables are compared
+pub tables_compared : {same : Bool} {xs ys fs gs : List ℕ} → same ≡ pointwise eqb xs ys → xs ≡ fs → ys ≡ gs → same_numbers fs gs ≡ same
+tables_compared is first second = rw (is, first, second) (sym (pointwise-same _ _))
 
 -- ---- Put
 
@@ -79,7 +62,7 @@ module _ (input : List ℕ) (from : ℕ) (lies : TableLies input from) (differs 
       rw differs
       (omega (arith, put16s-length (table_at input from), ap length (own_table input from own), u16s-length 8 input from))
 
-  table_text : Bytes input → put_table (table_at input from) ≡ header factors_bytes factors_kind ++ factor_bytes
+  table_text : Bytes input → put_table (table_at input from) ≡ (put16 factors_bytes ++ put16 factors_kind) ++ factor_bytes
   unfolding put_table put_factors put_record put16
   table_text B =
       let factors = u16s 8 input from in
@@ -88,10 +71,7 @@ module _ (input : List ℕ) (from : ℕ) (lies : TableLies input from) (differs 
       let bytes = put16s_u16s 8 input from B (omega (arith, own_lies)) ∙ ap (λ (k : ℕ). take k (drop from input)) count in
       rw (differs, own_table input from own, size, bytes)
 
-  pub table_fields : (at : ℕ) (old : List ℕ) {s out : List ℕ} → Bytes input
-      → s ≡ sets old at (header factors_bytes factors_kind) → out ≡ sets s (at + 4) factor_bytes
-      → Put (put_table (table_at input from)) at old out (at + (4 + factors_bytes))
-  unfolding put16
-  table_fields at old B e₁ e₂ =
-      let whole = sets_then old (header factors_bytes factors_kind) factor_bytes at (at + 4) refl e₁ e₂ in
-      record { bytes = whole ∙ rw (table_text B); end = omega (arith, table-length) }
+  pub table_fields : (at : ℕ) (old : List ℕ) {r : ℕ} {mid out : List ℕ} → Bytes input
+      → Put (put16 factors_bytes ++ put16 factors_kind) at old mid r → out ≡ sets mid r factor_bytes
+      → Put (put_table (table_at input from)) at old out (r + factors_bytes)
+  table_fields at old B header e = put_is (put_next factor_bytes header e refl (omega (arith, factor_bytes_length))) (table_text B)

@@ -1,12 +1,10 @@
--- The loop's invariant: the numbers from place v on are left to be put. The measure is the number of words that are left. Assumes nothing.
-use Prim.Native.Nat.{◌-◌, ◌≤◌}
-use lib.ListN.{length, drop}
+-- The loop's invariant: the numbers from this place on are left to be put. Assumes nothing.
+use lib.ListN.{drop}
 use Rattle.map_records.specs.Puts.{put_by_place}
 use Rattle.map_records.proofs.PutLoops.{Putting}
 use Rattle.map_records.proofs.put_by_place.Given as goal
 
-abbrev pub invariant-loop-v : goal.invariant-loop-v
-invariant-loop-v l = (l.v ≤ length l.words) × Putting (put_by_place l.kind l.unless 0 l.words) (put_by_place l.kind l.unless l.v (drop l.v l.words)) l.start l.initial.out l.out l.at
-
-abbrev pub decreases-loop-v : goal.decreases-loop-v
-decreases-loop-v l = length l.words - l.v
+abbrev pub invariant-loop-place : goal.invariant-loop-place
+invariant-loop-place g l =
+    let kind = g.R.PlaceRecord.kind in
+    Putting (put_by_place kind l.unless 0 l.words) (put_by_place kind l.unless l.place (drop l.place l.words)) l.start l.initial.out l.out l.at

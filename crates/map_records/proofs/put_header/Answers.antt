@@ -1,7 +1,11 @@
 -- The kind stands after the length.
-use Rattle.map_records.proofs.PutRecords.{header_fields}
+use mathlib.Core.Path.{refl}
+use native.Mathlib.Omega.{arith}
+use Rattle.model.specs.Bytes.{put16}
+use Rattle.map_records.proofs.PutRecords.{put_as, put_next}
 use Rattle.map_records.proofs.put_header.Goals as goal
 
 pub returns : goal.returns
+unfolding put16
 returns c =
-    header_fields _ _ _ _ c.put16.ensures c.wide16.ensures.0 c.put16-2.ensures
+    put_next (put16 c.args.kind) (put_as {new = put16 c.args.bytes} refl c.put16.ensures) (rw c.from.ensures at c.put16-2.ensures) refl (omega arith)
