@@ -1,17 +1,12 @@
--- The lamp of each range of numbers, and what is shown of a reading. Assumes nothing.
+-- The lamp of each range of numbers. Assumes nothing.
 use mathlib.Core.Path.{◌≡◌}
-use mathlib.Core.Logic.{◌⊎◌, inl, inr}
-use mathlib.Core.Bool.{true, cond}
-use mathlib.Core.List.{List}
+use mathlib.Core.Bool.{cond}
 use Prim.Native.Nat.{ℕ, ◌≤◌, ◌<◌}
 use native.Mathlib.Decide.{dec_lt}
 use native.Mathlib.Omega.{arith}
-use lib.ListN.{length, replicate}
 use borrow.Author.Tests.{le-leb, lt-leb, ne_eqb}
-use Rattle.sheet_reader.specs.Sheets.{Reading}
-use Rattle.display.specs.declared.lamps.Lamp.{Lamp}
 use Rattle.display.specs.declared.lamps.Lamp.TheVariants.{Red, Amber, Dark}
-use Rattle.display.specs.Shown.{within, lamp_of, accepted, shown}
+use Rattle.display.specs.Shown.{within, lamp_of}
 
 module _ (n : ℕ) where
   pub red_low : 1 ≤ n → n ≤ 13 → Red ≡ lamp_of n
@@ -46,18 +41,3 @@ module _ (n : ℕ) where
   pub dark : 23 ≤ n → Dark ≡ lamp_of n
   dark l =
       rw (above_17 (omega arith), le-leb 18 n (omega arith), lt-leb n 19 (omega arith), le-leb 20 n (omega arith), lt-leb n 22 (omega arith))
-
-module _ (r : Reading) (light : Lamp) (is : light ≡ lamp_of r.number) where
-  pub shown_accepted : (r.number ≡ 0) ⊎ (r.number ≡ 17)
-      → record { lamp = light; cost = r.cost; count = r.count; places = r.places } ≡ shown r
-  unfolding shown
-  shown_accepted h = rw (is, holds h)
-    where
-      holds : (r.number ≡ 0) ⊎ (r.number ≡ 17) → accepted r ≡ true
-      holds (inl e) = rw e
-      holds (inr e) = rw e
-
-  pub shown_refused : ((r.number ≡ 0) ⊎ (r.number ≡ 17) → ⊥) → (zeros : List ℕ) → zeros ≡ replicate (length r.places) 0
-      → record { lamp = light; cost = 0; count = 0; places = zeros } ≡ shown r
-  unfolding shown
-  shown_refused h zeros z = rw (is, z, ne_eqb r.number 0 (λ e. h (inl e)), ne_eqb r.number 17 (λ e. h (inr e)))
