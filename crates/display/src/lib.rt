@@ -20,6 +20,7 @@ pub struct Shown {
 }
 
 // The lamp of an answer's number.
+#[tactic(auto, unfolding(crate::specs::Shown::lamp_of))]
 pub fn lamp(number: u32) -> Lamp
     ensures { result ≡ lamp_of number }
 {
