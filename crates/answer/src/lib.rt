@@ -1,9 +1,9 @@
 // The seven numbers of an answer, which every public call gives, and how they go to a host.
 #![tactic(auto)]
 
-ghost use Rattle.std.specs.Prelude.{◌≡◌, length, take, set};
+ghost use Rattle.std.specs.Prelude.{◌≡◌, length, take};
 ghost use Rattle.model.specs.Answer.{answer, over_front};
-ghost use Rattle.answer.specs.Numbers.{answer_of, seven};
+ghost use Rattle.answer.specs.Numbers.{answer_of, seven, put_over};
 
 // Document 01's seven numbers.
 #[derive(Clone, Copy)]
@@ -31,24 +31,26 @@ pub fn refused(number: u32) -> Answer
     }
 }
 
-// Stores x at i, where there is such a word.
-fn put(words: &mut [u32], i: usize, x: u32)
-    ensures { words.new ≡ set words.old i x }
+// Copies the items from the first on, as many as there is room for.
+pub fn put_front<T: Copy>(to: &mut [T], items: &[T])
+    ensures { to.new ≡ put_over items.now to.old }
 {
-    if i < words.len() {
-        words[i] = x;
-    }
+    let n = to.len().min(items.len());
+    to[..n].copy_from_slice(&items[..n]);
 }
 
 // The seven numbers in order, as many as there is room for.
 pub fn put_numbers(words: &mut [u32], r: Answer)
     ensures { words.new ≡ over_front (take (length words.old) (seven (answer_of r))) words.old }
 {
-    put(words, 0, r.number);
-    put(words, 1, r.cost);
-    put(words, 2, r.limit);
-    put(words, 3, r.floor);
-    put(words, 4, r.expansions);
-    put(words, 5, r.queries);
-    put(words, 6, r.sheet_bytes);
+    let numbers = [
+        r.number,
+        r.cost,
+        r.limit,
+        r.floor,
+        r.expansions,
+        r.queries,
+        r.sheet_bytes,
+    ];
+    put_front(words, &numbers);
 }

@@ -1,2 +1,2 @@
--- Laws of the lamp's colours and of what is shown.
-pub mod Colours
+-- Laws of what is shown.
+pub mod AsRead

@@ -1,5 +1,5 @@
 // The colours of the display's lamp.
-#[derive(Clone, Copy)]
+#[derive(Clone, Copy, Debug, PartialEq, Eq)]
 pub enum Lamp {
     Green,
     Red,

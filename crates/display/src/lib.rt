@@ -8,10 +8,10 @@ ghost use Rattle.sheet_reader.specs.Sheets.{read_sheet};
 ghost use Rattle.display.specs.Shown.{lamp_of, shown};
 
 pub use lamps::Lamp;
-use sheet_reader::{FOUND, NO_ROUTE, PLACES};
+use sheet_reader::PLACES;
 
 // What is shown of a sheet; the places have zeros after the last.
-#[derive(Drop)]
+#[derive(Debug, PartialEq, Eq, Drop)]
 pub struct Shown {
     pub lamp: Lamp,
     pub cost: u32,
@@ -20,6 +20,7 @@ pub struct Shown {
 }
 
 // The lamp of an answer's number.
+#[tactic(auto, unfolding(crate::specs::Shown::lamp_of))]
 pub fn lamp(number: u32) -> Lamp
     ensures { result ≡ lamp_of number }
 {
@@ -34,26 +35,16 @@ pub fn lamp(number: u32) -> Lamp
     }
 }
 
-// A refused sheet has its lamp and zeros.
+// The lamp of the read's number, and what was read, which is zeros where the sheet is refused.
 pub fn show(sheet: &[u8]) -> Shown
     ensures { result ≡ shown (read_sheet sheet.now) }
 {
     let reading = sheet_reader::read(sheet);
-    let number = reading.number;
     let places = reading.places;
-    let lamp = lamp(number);
-    match number {
-        FOUND | NO_ROUTE => Shown {
-            lamp,
-            cost: reading.cost,
-            count: reading.count,
-            places,
-        },
-        _ => Shown {
-            lamp,
-            cost: 0,
-            count: 0,
-            places: [0u16; PLACES],
-        },
+    Shown {
+        lamp: lamp(reading.number),
+        cost: reading.cost,
+        count: reading.count,
+        places,
     }
 }

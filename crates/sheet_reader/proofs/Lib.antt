@@ -1,5 +1,6 @@
--- Laws of a sheet's record and its places, and of the host's questions.
+-- Laws of a sheet's record and its places, of how a read ends, and of the host's questions.
 pub mod Framing
 pub mod Records
 pub mod Listing
 pub mod Answers
+pub mod Outcomes

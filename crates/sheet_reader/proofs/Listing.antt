@@ -2,6 +2,7 @@
 use mathlib.Core.Path.{◌≡◌, refl, sym, ap, ◌∙◌}
 use mathlib.Core.Bool.{Bool, true, false, ◌||◌, or-true}
 use mathlib.Core.List.{List, [], ◌∷◌, ◌++◌, append_assoc}
+use Rattle.std.specs.Prelude.{Some, None}
 use Prim.Native.Nat.{ℕ, zero, suc, ◌+◌, ◌-◌, ◌*◌, ◌≤◌, ◌<◌}
 use native.Mathlib.Numerals.{add-one}
 use native.Mathlib.Decide.{ℕ_discrete}
@@ -17,7 +18,7 @@ use Rattle.model.specs.Limits.{max_places}
 use Rattle.model.proofs.Bytes.{u16s-length, u16s_at}
 use Rattle.model.proofs.Indices.{any_nowhere, nowhere_any, repeats_different, different_repeats}
 use Rattle.sheet_reader.specs.Listing.{place_at, Passed}
-use Rattle.sheet_reader.specs.Read.{Listed}
+use Rattle.sheet_reader.specs.Read.{listed}
 
 -- one field more
 u16s_more : (n : ℕ) (b : List ℕ) (k : ℕ) → u16s (suc n) b k ≡ u16s n b k ++ (u16 b (k + 2 * n) ∷ [])
@@ -27,29 +28,29 @@ u16s_more (suc n) b k =
     let at : k + 2 + 2 * n ≡ k + 2 * suc n = omega arith in
     ap (λ (xs : List ℕ). u16 b k ∷ xs) (u16s_more n b (k + 2) ∙ ap (λ (i : ℕ). u16s n b (k + 2) ++ (u16 b i ∷ [])) at)
 
-zeros_at : (n v : ℕ) → ◌≡◌ {A = ℕ} (get_or (replicate n 0) v 0) 0
-zeros_at zero v = refl
-zeros_at (suc n) zero = refl
-zeros_at (suc n) (suc v) = zeros_at n v
+unmarked : (n v : ℕ) → get_or (replicate n false) v false ≡ false
+unmarked zero v = refl
+unmarked (suc n) zero = refl
+unmarked (suc n) (suc v) = unmarked n v
 
 module _ (body : List ℕ) (count : ℕ) where
-  pub passed_none : Passed body count 0 (replicate max_places 0) (replicate max_places 0)
+  pub passed_none : Passed body count 0 (replicate max_places 0) (replicate max_places false)
   unfolding u16s
   passed_none =
       record {
         within = omega arith;
         listed = refl;
-        marks = length-replicate {A = ℕ} max_places 0;
+        marks = length-replicate max_places false;
         below = λ j l. absurd (omega arith);
         marked = λ j l. absurd (omega arith);
-        met = λ v e. absurd (omega (arith, zeros_at max_places v));
+        met = λ v e. let none = unmarked max_places v in cc;
         different = λ j k l m. absurd (omega arith);
       }
 
-  module _ (i : ℕ) (list seen : List ℕ) (h : Passed body count i list seen) where
+  module _ (i : ℕ) (list : List ℕ) (seen : List Bool) (h : Passed body count i list seen) where
     -- a place below the limit that bears no mark is passed
     module _ (place : ℕ) (is : place ≡ place_at body i) (l : i < count) (m : count ≤ max_places) (small : place < max_places)
-        (new : get_or seen place 0 ≡ 1 → ⊥) where
+        (new : get_or seen place false ≡ false) where
       listed_more : set list i place ≡ u16s (i + 1) body 6 ++ replicate (max_places - (i + 1)) 0
       listed_more =
           let zeros : List ℕ = replicate (max_places - (i + 1)) 0 in
@@ -60,63 +61,68 @@ module _ (body : List ℕ) (count : ℕ) where
       below_here : place_at body i < max_places
       below_here = omega arith
 
-      marked_here : get_or (set seen place 1) (place_at body i) 0 ≡ 1
-      marked_here = rw (← is) (get_or-set_same seen place 1 0 (omega (arith, h.marks)))
+      -- the place is no marked one
+      clash : {v : ℕ} → get_or seen v false ≡ true → v ≡ place → ⊥
+      clash {v} old e = let same = ap (λ (n : ℕ). get_or seen n false) e in cc
 
-      marked_before : (j : ℕ) → j < i → get_or (set seen place 1) (place_at body j) 0 ≡ 1
+      marked_here : get_or (set seen place true) (place_at body i) false ≡ true
+      marked_here = rw (← is) (get_or-set_same seen place true false (omega (arith, h.marks)))
+
+      marked_before : (j : ℕ) → j < i → get_or (set seen place true) (place_at body j) false ≡ true
       marked_before j k =
           let old = h.marked j k in
-          get_or-set_other seen place (place_at body j) 1 0 (λ e. new (rw e at old)) ∙ old
+          get_or-set_other seen place (place_at body j) true false (λ e. clash old e) ∙ old
 
-      met_more : (v : ℕ) → get_or (set seen place 1) v 0 ≡ 1 → (j : ℕ) × (j < i + 1) × (place_at body j ≡ v)
+      met_more : (v : ℕ) → get_or (set seen place true) v false ≡ true → (j : ℕ) × (j < i + 1) × (place_at body j ≡ v)
       met_more v e = go (ℕ_discrete v place)
         where
           go : Dec (v ≡ place) → (j : ℕ) × (j < i + 1) × (place_at body j ≡ v)
           go (yes same) = (i, omega arith, sym is ∙ sym same)
           go (no other) =
-              let old = h.met v (sym (get_or-set_other seen place v 1 0 other) ∙ e) in
+              let old = h.met v (sym (get_or-set_other seen place v true false other) ∙ e) in
               (old.0, omega (arith, old.1), old.2)
 
       different_here : (j : ℕ) → j < i → place_at body j ≡ place_at body i → ⊥
-      different_here j p e = let old = h.marked j p in new (rw (e ∙ sym is) at old)
+      different_here j p e = clash (h.marked j p) (e ∙ sym is)
 
       different_more : (j k : ℕ) → j < k → k < i + 1 → place_at body j ≡ place_at body k → ⊥
       different_more j k jk ki =
           below_more (λ (n : ℕ). j < n → place_at body j ≡ place_at body n → ⊥) i (λ n q p. h.different j n p q) (different_here j) k ki jk
 
-      pub passed_more : (at : ℕ) → at ≡ place → Passed body count (i + 1) (set list i place) (set seen at 1)
+      pub passed_more : (at : ℕ) → at ≡ place → Passed body count (i + 1) (set list i place) (set seen at true)
       passed_more at e =
           rw e
           (record {
             within = omega arith;
             listed = listed_more;
-            marks = length-set seen place 1 ∙ h.marks;
+            marks = length-set seen place true ∙ h.marks;
             below = below_more (λ (j : ℕ). place_at body j < max_places) i h.below below_here;
-            marked = below_more (λ (j : ℕ). get_or (set seen place 1) (place_at body j) 0 ≡ 1) i marked_before marked_here;
+            marked = below_more (λ (j : ℕ). get_or (set seen place true) (place_at body j) false ≡ true) i marked_before marked_here;
             met = met_more;
             different = different_more;
           })
 
-    -- a place beyond the last one of any map, or one that bears a mark, makes the list impossible
+    -- a place beyond the last one of any map, or one that is marked, makes the list impossible
     module _ (l : i < count) where
-      refused_list : any (leb max_places) (u16s count body 6) || repeats (u16s count body 6) ≡ true → Listed body count false list
-      refused_list e = record { possible_is = rw e; list_is = λ f. cc }
+      none_listed : any (leb max_places) (u16s count body 6) || repeats (u16s count body 6) ≡ true → None ≡ listed body count
+      unfolding listed
+      none_listed e = rw e
 
-      pub place_beyond : max_places ≤ place_at body i → Listed body count false list
+      pub place_beyond : max_places ≤ place_at body i → None ≡ listed body count
       place_beyond b = go (any (leb max_places) (u16s count body 6)) refl
         where
-          go : (t : Bool) → any (leb max_places) (u16s count body 6) ≡ t → Listed body count false list
-          go true e = refused_list (rw e)
+          go : (t : Bool) → any (leb max_places) (u16s count body 6) ≡ t → None ≡ listed body count
+          go true e = none_listed (rw e)
           go false e =
               let here = any_nowhere (leb max_places) (u16s count body 6) e i (rw u16s-length l) in
               let place = u16s_at count body 6 i l in
               absurd (omega (arith, leb-false max_places (place_at body i) (rw place at here)))
 
-      pub place_again : (at : ℕ) → at ≡ place_at body i → get_or seen at 0 ≡ 1 → Listed body count false list
+      pub place_again : (at : ℕ) → at ≡ place_at body i → get_or seen at false ≡ true → None ≡ listed body count
       place_again at is b = go (repeats (u16s count body 6)) refl
         where
-          go : (t : Bool) → repeats (u16s count body 6) ≡ t → Listed body count false list
-          go true e = refused_list (rw (e, or-true))
+          go : (t : Bool) → repeats (u16s count body 6) ≡ t → None ≡ listed body count
+          go true e = none_listed (rw (e, or-true))
           go false e =
               let old = h.met at b in
               let first = u16s_at count body 6 old.0 (omega (arith, old.1)) in
@@ -124,10 +130,11 @@ module _ (body : List ℕ) (count : ℕ) where
               absurd (repeats_different (u16s count body 6) e old.0 i old.1 (rw u16s-length l) (first ∙ old.2 ∙ is ∙ sym again))
 
     -- where all are passed, the list is possible
-    pub all_passed : count ≤ i → Listed body count true list
+    pub all_passed : count ≤ i → Some list ≡ listed body count
+    unfolding listed
     all_passed l =
         let all : i ≡ count = omega (arith, h.within) in
-        record { possible_is = rw (none_beyond, none_twice); list_is = λ _. h.listed ∙ rw all }
+        rw (none_beyond, none_twice, h.listed, all)
       where
         none_beyond : any (leb max_places) (u16s count body 6) ≡ false
         none_beyond =

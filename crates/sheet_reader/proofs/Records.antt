@@ -1,12 +1,13 @@
 -- What a record of kind 17 or 18 is read as, test by test. Assumes nothing.
 use mathlib.Core.Path.{◌≡◌, refl, sym, ◌∙◌}
 use mathlib.Core.Bool.{Bool, true, false, ◌||◌, or-true}
-use mathlib.Core.List.{List, [], ◌∷◌}
+use mathlib.Core.List.{List, [], ◌∷◌, ◌++◌}
+use Rattle.std.specs.Prelude.{Some, None}
 use Prim.Native.Nat.{ℕ, ◌+◌, ◌-◌, ◌*◌, ◌≤◌, ◌<◌}
 use native.Mathlib.Omega.{arith}
 use lib.Dec.{leb, ltb}
 use lib.ListN.{length, replicate}
-use borrow.Author.Tests.{le-leb, lt-leb, lt-ltb, le-ltb, eq-eqb, ne_eqb, not-true, not-false}
+use borrow.Author.Tests.{le-leb, lt-leb, lt-ltb, le-ltb, eq-eqb, ne_eqb}
 use Rattle.model.specs.Lists.{any, repeats, member}
 use Rattle.model.specs.Bytes.{u16, u32, u16s}
 use Rattle.model.specs.Limits.{max_places, max_cost}
@@ -23,7 +24,7 @@ use Rattle.model.specs.Sheets.{
   read_record,
 }
 use Rattle.model.proofs.Bytes.{u16s-length}
-use Rattle.sheet_reader.specs.Read.{Listed}
+use Rattle.sheet_reader.specs.Read.{listed}
 
 -- a record of another kind is no sheet
 pub other_kind : (kind : ℕ) (body : List ℕ) → (kind ≡ route_kind → ⊥) → (kind ≡ no_route_kind → ⊥)
@@ -107,12 +108,24 @@ module _ (body : List ℕ) (cost count : ℕ) (h : Header body cost count) where
   unfolding impossible
   high_cost l = route_refused (rw (u16s-length count body 6, lt-ltb ((count - 1) * max_cost) cost l, or-true))
 
-  pub no_list : (possible : Bool) → possible ≡ false → (list : List ℕ) → Listed body count possible list → route_read body ≡ refused_read 19
+  -- what is listed says whether the places are wrong
+  none_wrong : (t : Bool) → any (leb max_places) places || repeats places ≡ t → listed body count ≡ None
+      → any (leb max_places) places || repeats places ≡ true
+  unfolding listed
+  none_wrong true w e = w
+  none_wrong false w e = let some = rw w at e in cc
+
+  some_right : (list : List ℕ) (t : Bool) → any (leb max_places) places || repeats places ≡ t → listed body count ≡ Some list
+      → (any (leb max_places) places || repeats places ≡ false) × (list ≡ places ++ replicate (max_places - count) 0)
+  unfolding listed
+  some_right list true w e = let none = rw w at e in cc
+  some_right list false w e = let some = rw w at e in (w, cc)
+
+  pub no_list : listed body count ≡ None → route_read body ≡ refused_read 19
   unfolding impossible
-  no_list possible e list p =
-      let some = not-false (any (leb max_places) places || repeats places) (sym p.possible_is ∙ e) in
+  no_list e =
       let first = ltb (length places) 1 || ltb max_places (length places) in
-      route_refused (rw (or_later first (any (leb max_places) places) (repeats places) some))
+      route_refused (rw (or_later first (any (leb max_places) places) (repeats places) (none_wrong _ refl e)))
 
   route_read_lem : 1 ≤ count → count ≤ max_places → count - 1 ≤ cost → cost ≤ (count - 1) * max_cost
       → any (leb max_places) places || repeats places ≡ false → route_read body ≡ reading 0 cost places
@@ -129,9 +142,9 @@ module _ (body : List ℕ) (cost count : ℕ) (h : Header body cost count) where
       )
 
   pub route_sheet_lem : 1 ≤ count → count ≤ max_places → count - 1 ≤ cost → cost ≤ (count - 1) * max_cost
-      → (possible : Bool) → possible ≡ true → (list : List ℕ) → Listed body count possible list → (n : ℕ) → n ≡ count
+      → (list : List ℕ) → listed body count ≡ Some list → (n : ℕ) → n ≡ count
       → record { number = 0; cost = cost; count = n; places = list } ≡ route_read body
   unfolding reading
-  route_sheet_lem some few above below possible e list p n is =
-      let none = not-true (any (leb max_places) places || repeats places) (sym p.possible_is ∙ e) in
-      rw (route_read_lem some few above below none, p.list_is e, is, u16s-length count body 6)
+  route_sheet_lem some few above below list e n is =
+      let right = some_right list _ refl e in
+      rw (route_read_lem some few above below right.0, right.1, is, u16s-length count body 6)

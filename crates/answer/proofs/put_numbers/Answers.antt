@@ -1,6 +1,7 @@
--- The seven stores one after another, as far as there is room, are one run from the front on.
-use Rattle.answer.proofs.Words.{stored}
+-- The seven numbers are put over the front. Assumes nothing.
+use Rattle.model.specs.Answer.{over_front}
 use Rattle.answer.proofs.put_numbers.Goals as goal
 
 pub returns : goal.returns
-returns c = rw (← stored) cc
+unfolding over_front
+returns c = c.put_front.ensures

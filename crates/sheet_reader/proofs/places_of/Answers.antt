@@ -1,7 +1,9 @@
 use mathlib.Core.Path.{◌≡◌}
+use mathlib.Core.Bool.{false}
 use native.Mathlib.Omega.{arith}
 use lib.ListN.{get_or}
 use Rattle.sheet_reader.proofs.Listing.{passed_none, passed_more, place_beyond, place_again, all_passed}
+use Rattle.sheet_reader.proofs.places_of.Goals.{then-at-ge-PLACES-via-then-at-ge-PLACES, then-at-ge-PLACES-via-else-at-ge-PLACES+then-seen-at}
 use Rattle.sheet_reader.proofs.places_of.Goals as goal
 
 pub loop-i-init : goal.loop-i-init
@@ -11,22 +13,20 @@ pub returns-then-at-ge-PLACES : goal.returns-then-at-ge-PLACES
 returns-then-at-ge-PLACES c =
     let l = c.loop-i in
     let a = c.args in
-    place_beyond a.body.now a.count l.i l.list l.seen l.invariant (omega arith) (omega arith)
-
-pub returns-then-seen-at-eq1 : goal.returns-then-seen-at-eq1
-returns-then-seen-at-eq1 c =
-    let l = c.loop-i in
-    let a = c.args in
-    place_again a.body.now a.count l.i l.list l.seen l.invariant (omega arith) c.index-at.result (omega arith) c.if-seen-at-eq1.true
+    elim c.then-at-ge-PLACES.branch [
+      | then-at-ge-PLACES-via-then-at-ge-PLACES w ↦ place_beyond a.body.now a.count l.i l.list l.seen l.invariant (omega arith) (omega arith)
+      | then-at-ge-PLACES-via-else-at-ge-PLACES+then-seen-at w ↦
+          place_again a.body.now a.count l.i l.list l.seen l.invariant (omega arith) c.from-at.result (omega arith) w.if-seen-at.true
+    ]
 
 pub loop-i-preserved : goal.loop-i-preserved
 loop-i-preserved c =
     let l = c.loop-i in
     let a = c.args in
     let place = c.u16_at-place.result in
-    let new : get_or l.seen place 0 ≡ 1 → ⊥ = rw c.index-at.ensures.0 at c.if-seen-at-eq1.false in
+    let new : get_or l.seen place false ≡ false = rw c.from-at.ensures at c.if-seen-at.false in
     passed_more a.body.now a.count l.i l.list l.seen l.invariant place c.u16_at-place.ensures
-    (omega arith) (omega arith) (omega arith) new c.index-at.result c.index-at.ensures.0
+    (omega arith) (omega arith) (omega arith) new c.from-at.result (omega arith)
 
 pub returns : goal.returns
 returns c =

@@ -1,35 +1,29 @@
 -- No loop: each question is a case of the definition; a place beyond the last is past the list's end. Assumes nothing.
 use mathlib.Core.Path.{◌≡◌, ◌∙◌}
-use native.Mathlib.Omega.{arith}
-use lib.ListN.{length}
+use Prim.Native.Nat.{◌-◌}
 use borrow.Author.Rules.{rules}
-use Rattle.model.specs.Limits.{max_places}
+use lib.ListN.{get_or}
 use Rattle.sheet_reader.specs.Read.{reading_of}
-use Rattle.sheet_reader.proofs.Answers.{host_number, host_cost, host_count, host_place, host_beyond}
+use Rattle.sheet_reader.proofs.Answers.{host_number, host_cost, host_count, host_place}
 use Rattle.sheet_reader.proofs.r3_sheet.Goals as goal
 
-pub returns-then-question-eq0 : goal.returns-then-question-eq0
-returns-then-question-eq0 c =
+pub returns-in-0 : goal.returns-in-0
+returns-in-0 c =
     let r = c.read-reading in
-    rw (← r.ensures) (host_number (reading_of r.result) c.args.question (omega arith))
+    rw (← r.ensures) (host_number (reading_of r.result) c.args.question c.in-0.is)
 
-pub returns-then-question-eq1 : goal.returns-then-question-eq1
-returns-then-question-eq1 c =
+pub returns-in-1 : goal.returns-in-1
+returns-in-1 c =
     let r = c.read-reading in
-    rw (← r.ensures) (host_cost (reading_of r.result) c.args.question (omega arith))
+    rw (← r.ensures) (host_cost (reading_of r.result) c.args.question c.in-1.is)
 
-pub returns-then-question-eq2 : goal.returns-then-question-eq2
-returns-then-question-eq2 c =
+pub returns-in-2 : goal.returns-in-2
+returns-in-2 c =
     let r = c.read-reading in
-    rw (← r.ensures) (host_count (reading_of r.result) c.args.question (omega arith))
+    rw (← r.ensures) (host_count (reading_of r.result) c.args.question c.in-2.is)
 
-pub returns-then-place-lt-PLACES : goal.returns-then-place-lt-PLACES
-returns-then-place-lt-PLACES c =
+pub returns-in_default : goal.returns-in_default
+returns-in_default c =
     let r = c.read-reading in
-    rw (← r.ensures) (c.wide16.ensures.0 ∙ host_place (reading_of r.result) c.args.question (omega arith))
-
-pub returns : goal.returns
-returns c =
-    let r = c.read-reading in
-    let all : length r.result.places ≡ max_places = search rules in
-    rw (← r.ensures) (host_beyond (reading_of r.result) c.args.question (omega arith) (omega arith))
+    let it : c.map_or.result ≡ get_or r.result.places (c.args.question - 3) 0 = search rules in
+    rw (← r.ensures) (it ∙ host_place (reading_of r.result) c.args.question (search rules))

@@ -8,12 +8,10 @@ use Rattle.day.proofs.host.figures_of.Goals as goal
 pub loop-n-preserved : goal.loop-n-preserved
 loop-n-preserved c =
     let l = c.loop-n in
-    let day = c.args.day in
-    (omega arith, one_count_more day (search rules) l.n (omega arith) l.invariant.1)
+    rw c.from-in-loop-n.ensures (one_count_more c.args.day (search rules) l.n (omega arith) l.invariant)
 
 pub returns : goal.returns
 returns c =
     let l = c.loop-n in
-    let day = c.args.day in
     let all : l.n ≡ numbers = omega arith in
-    l.invariant.1 ∙ rw all (all_figures day (search rules))
+    l.invariant ∙ rw all (all_figures c.args.day (search rules))

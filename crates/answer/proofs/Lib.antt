@@ -1,2 +1,0 @@
--- A law of words stored one by one.
-pub mod Words
