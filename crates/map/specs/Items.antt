@@ -3,12 +3,25 @@ use Rattle.std.specs.Prelude.{◌≡◌, Bool, true, false, cond, ◌||◌, not,
 use Rattle.map.specs.declared.record as declared
 use Rattle.map.specs.declared.record.Item.{Item}
 use Rattle.map.specs.declared.record.Item.TheVariants.{Head, Lane, Measured, Estimate, Wait, Factors, Default, Job, Misfit, Other}
+use Rattle.map.specs.declared.record.Kind.{Kind}
+use Rattle.map.specs.declared.record.Kind.TheVariants as kinds
 use Rattle.map.specs.Records.{record_in}
 use Rattle.model.specs.Bytes.{u16s}
 use Rattle.model.specs.Items as model
 use Rattle.model.specs.Limits.{max_cost}
 use Rattle.model.specs.Refusals.{mismeasured}
 use Rattle.model.specs.Stated.{fixed_factors, cost_under}
+
+-- the papers' number of each kind
+abbrev pub kind_number : Kind → ℕ
+kind_number kinds.Head = model.head_kind
+kind_number kinds.Arc = model.arc_kind
+kind_number kinds.Estimate = model.estimate_kind
+kind_number kinds.Job = model.job_kind
+kind_number kinds.Measured = model.measured_kind
+kind_number kinds.Wait = model.wait_kind
+kind_number kinds.Factors = model.factors_kind
+kind_number kinds.Default = model.default_kind
 
 -- what a body that begins at byte `at` says, in the code's types
 unfoldable pub size_at : List ℕ → ℕ → declared.Size.Size

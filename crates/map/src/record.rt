@@ -5,32 +5,33 @@ ghost use Rattle.model.specs.Bytes.{u16s};
 ghost use Rattle.model.specs.Stated.{cost_under};
 ghost use Rattle.map.specs.Records.{read_at};
 ghost use Rattle.map.specs.Items.{size_at, lane_meant, measured_meant, estimate_body_at, wait_body_at, job_at, table_at, TableLies, Priced};
-ghost use Rattle.map.specs.Items.{LiesIn, FitsIn, Says, EndsBy};
+ghost use Rattle.map.specs.Items.{kind_number, LiesIn, FitsIn, Says, EndsBy};
 
 use crate::Map;
 use crate::refusal::Refusal;
 
-pub const HEAD_KIND: u16 = 1;
+// The kinds of record. A measured arc has a length and a class in place of a cost; a map's own factors replace the fixed ones; a default is
+// one estimate for all places that have none of their own.
+#[derive(Clone, Copy, Debug, PartialEq, Eq)]
+pub enum Kind {
+    Head = 1,
+    Arc = 2,
+    Estimate = 3,
+    Job = 4,
+    Measured = 5,
+    Wait = 6,
+    Factors = 7,
+    Default = 8,
+}
 
-pub const ARC_KIND: u16 = 2;
-
-pub const ESTIMATE_KIND: u16 = 3;
-
-pub const JOB_KIND: u16 = 4;
-
-// An arc that is measured: it has a length and a class in place of a cost.
-pub const MEASURED_KIND: u16 = 5;
-
-pub const WAIT_KIND: u16 = 6;
-
-// A map's own factors, which replace the fixed ones.
-pub const FACTORS_KIND: u16 = 7;
-
-// One estimate for all places that have none of their own.
-pub const DEFAULT_KIND: u16 = 8;
-
-// The papers' kinds are those from 1 on up to this one.
-const LAST_KIND: u16 = 8;
+impl Kind {
+    // A record's kind is read as a number, which may be none of these: `item_of` compares it.
+    pub fn number(self) -> u16
+        ensures { result ≡ kind_number self }
+    {
+        self as u16
+    }
+}
 
 // The bytes before a record's body: its length and its kind.
 pub const HEADER: usize = 4;
@@ -245,31 +246,31 @@ pub fn item_of(input: &[u8], r: Record) -> Item
     ensures { Says input.now r result }
 {
     let len = r.end - r.start;
-    if (r.kind == ARC_KIND) & (len == ARC_BYTES) {
+    if (r.kind == Kind::Arc as u16) & (len == ARC_BYTES) {
         return Item::Lane(lane_at(input, r.start));
     }
-    if (r.kind == MEASURED_KIND) & (len == MEASURED_BYTES) {
+    if (r.kind == Kind::Measured as u16) & (len == MEASURED_BYTES) {
         return Item::Measured(measured_at(input, r.start));
     }
-    if (r.kind == ESTIMATE_KIND) & (len == ESTIMATE_BYTES) {
+    if (r.kind == Kind::Estimate as u16) & (len == ESTIMATE_BYTES) {
         return Item::Estimate(estimate_at(input, r.start));
     }
-    if (r.kind == WAIT_KIND) & (len == WAIT_BYTES) {
+    if (r.kind == Kind::Wait as u16) & (len == WAIT_BYTES) {
         return Item::Wait(wait_at(input, r.start));
     }
-    if (r.kind == HEAD_KIND) & (len == HEAD_BYTES) {
+    if (r.kind == Kind::Head as u16) & (len == HEAD_BYTES) {
         return Item::Head(head_at(input, r.start));
     }
-    if r.kind == JOB_KIND {
+    if r.kind == Kind::Job as u16 {
         return job_at(input, r.start, len);
     }
-    if (r.kind == FACTORS_KIND) & (len == FACTORS_BYTES) {
+    if (r.kind == Kind::Factors as u16) & (len == FACTORS_BYTES) {
         return Item::Factors(r.start);
     }
-    if (r.kind == DEFAULT_KIND) & (len == DEFAULT_BYTES) {
+    if (r.kind == Kind::Default as u16) & (len == DEFAULT_BYTES) {
         return Item::Default(area::u32_at(input, r.start));
     }
-    if (r.kind < HEAD_KIND) | (LAST_KIND < r.kind) {
+    if (r.kind < 1) | (r.kind > Kind::Default as u16) {
         return Item::Other;
     }
     Item::Misfit
@@ -282,28 +283,28 @@ pub fn fitting_item(input: &[u8], r: Record) -> Item
     ensures { Says input.now r result }
 {
     let len = r.end - r.start;
-    if r.kind == ARC_KIND {
+    if r.kind == Kind::Arc as u16 {
         return Item::Lane(lane_at(input, r.start));
     }
-    if r.kind == MEASURED_KIND {
+    if r.kind == Kind::Measured as u16 {
         return Item::Measured(measured_at(input, r.start));
     }
-    if r.kind == ESTIMATE_KIND {
+    if r.kind == Kind::Estimate as u16 {
         return Item::Estimate(estimate_at(input, r.start));
     }
-    if (r.kind == WAIT_KIND) & (len == WAIT_BYTES) {
+    if (r.kind == Kind::Wait as u16) & (len == WAIT_BYTES) {
         return Item::Wait(wait_at(input, r.start));
     }
-    if r.kind == HEAD_KIND {
+    if r.kind == Kind::Head as u16 {
         return Item::Head(head_at(input, r.start));
     }
-    if r.kind == JOB_KIND {
+    if r.kind == Kind::Job as u16 {
         return job_at(input, r.start, len);
     }
-    if (r.kind == FACTORS_KIND) & (len == FACTORS_BYTES) {
+    if (r.kind == Kind::Factors as u16) & (len == FACTORS_BYTES) {
         return Item::Factors(r.start);
     }
-    if (r.kind == DEFAULT_KIND) & (len == DEFAULT_BYTES) {
+    if (r.kind == Kind::Default as u16) & (len == DEFAULT_BYTES) {
         return Item::Default(area::u32_at(input, r.start));
     }
     Item::Other

@@ -8,27 +8,28 @@ ghost use Rattle.model.specs.Framing.{put_record};
 ghost use Rattle.model.specs.Items.{estimate_kind, wait_kind};
 ghost use Rattle.model.specs.Jobs.{put_table, put_some_default, put_lane};
 ghost use Rattle.model.specs.Limits.{max_places};
-ghost use Rattle.map.specs.Items.{table_at, TableLies};
+ghost use Rattle.map.specs.Items.{kind_number, table_at, TableLies};
 ghost use Rattle.sort.specs.Keys.{key_from};
 ghost use Rattle.lane_rows.specs.Keys.{lane_in};
 ghost use Rattle.map_records.specs.Puts.{Put, Fits, put_lanes, put_value, put_by_place, put_job_of, map_text, GoalsLast, Puttable};
 
-use map::{Job, Map, record};
+use map::record::{self, Kind};
+use map::{Job, Map};
 
 // The length of a record's body and its kind.
-fn put_header(out: &mut [u8], at: usize, bytes: usize, kind: u16) -> usize
+fn put_header(out: &mut [u8], at: usize, bytes: usize, kind: Kind) -> usize
     requires { (bytes < 2 ^ 32) × (at + 4 ≤ length out.old) }
-    ensures { Put (put16 bytes ++ put16 kind) at out.old out.new result }
+    ensures { Put (put16 bytes ++ put16 (kind_number kind)) at out.old out.new result }
 {
     area::put16(out, at, bytes as u32);
-    area::put16(out, at + 2, u32::from(kind));
+    area::put16(out, at + 2, u32::from(kind.number()));
     at + record::HEADER
 }
 
 // A record of a few fields of 2 bytes.
-fn put_fields(out: &mut [u8], at: usize, kind: u16, fields: &[u32]) -> usize
-    requires { (length fields.now ≤ 4) × Fits (put_record kind (put16s fields.now)) at out.old }
-    ensures { Put (put_record kind (put16s fields.now)) at out.old out.new result }
+fn put_fields(out: &mut [u8], at: usize, kind: Kind, fields: &[u32]) -> usize
+    requires { (length fields.now ≤ 4) × Fits (put_record (kind_number kind) (put16s fields.now)) at out.old }
+    ensures { Put (put_record (kind_number kind) (put16s fields.now)) at out.old out.new result }
 {
     let mut end = put_header(out, at, 2 * fields.len(), kind);
     for field in fields {
@@ -47,11 +48,11 @@ fn put_lane(out: &mut [u8], at: usize, high: u32, low: u32) -> usize
     let to = high % lane_rows::FROM;
     if low / lane_rows::MEASURED % 2 == 0 {
         let cost = low / lane_rows::COST;
-        return put_fields(out, at, record::ARC_KIND, &[from, to, cost]);
+        return put_fields(out, at, Kind::Arc, &[from, to, cost]);
     }
     let feet = low / lane_rows::LENGTH % lane_rows::LENGTHS;
     let class = low % lane_rows::LENGTH;
-    put_fields(out, at, record::MEASURED_KIND, &[from, to, feet, class])
+    put_fields(out, at, Kind::Measured, &[from, to, feet, class])
 }
 
 // The lanes of all keys in the words.
@@ -81,7 +82,7 @@ impl PlaceRecord for Estimate {
     ghost kind = { estimate_kind };
 
     fn put(out: &mut [u8], at: usize, place: usize, value: u32) -> usize {
-        let body = put_header(out, at, record::ESTIMATE_BYTES, record::ESTIMATE_KIND);
+        let body = put_header(out, at, record::ESTIMATE_BYTES, Kind::Estimate);
         area::put16(out, body, place as u32);
         area::put32(out, body + 2, value);
         body + record::ESTIMATE_BYTES
@@ -94,7 +95,7 @@ impl PlaceRecord for Wait {
     ghost kind = { wait_kind };
 
     fn put(out: &mut [u8], at: usize, place: usize, value: u32) -> usize {
-        put_fields(out, at, record::WAIT_KIND, &[place as u32, value])
+        put_fields(out, at, Kind::Wait, &[place as u32, value])
     }
 }
 
@@ -122,7 +123,7 @@ fn put_table(out: &mut [u8], at: usize, input: &[u8], factors_at: usize) -> usiz
     if factors == fixed {
         return at;
     }
-    let body = put_header(out, at, record::FACTORS_BYTES, record::FACTORS_KIND);
+    let body = put_header(out, at, record::FACTORS_BYTES, Kind::Factors);
     let end = factors_at + record::FACTORS_BYTES;
     area::put_bytes(out, body, &input[factors_at..end]);
     body + record::FACTORS_BYTES
@@ -136,7 +137,7 @@ fn put_default(out: &mut [u8], at: usize, value: u32) -> usize
     if value == 0 {
         return at;
     }
-    let body = put_header(out, at, record::DEFAULT_BYTES, record::DEFAULT_KIND);
+    let body = put_header(out, at, record::DEFAULT_BYTES, Kind::Default);
     area::put32(out, body, value);
     body + record::DEFAULT_BYTES
 }
@@ -147,7 +148,7 @@ fn put_job(out: &mut [u8], at: usize, input: &[u8], job: Job) -> usize
     ensures { Put (put_job_of input.now job) at out.old out.new result }
 {
     let bytes = record::GOALS + 2 * job.goals;
-    let body = put_header(out, at, bytes, record::JOB_KIND);
+    let body = put_header(out, at, bytes, Kind::Job);
     area::put16(out, body, job.site.start);
     area::put32(out, body + 2, job.allowance);
     area::put16(out, body + 6, job.goals as u32);
@@ -163,7 +164,7 @@ pub fn put_map(out: &mut [u8], input: &[u8], job: Job, work: &[u32]) -> usize
 {
     let places = job.site.places;
     let arcs = job.site.arcs;
-    let head_end = put_fields(out, 0, record::HEAD_KIND, &[places as u32, arcs as u32]);
+    let head_end = put_fields(out, 0, Kind::Head, &[places as u32, arcs as u32]);
     let start = layout::arcs_at(places);
     let end = start + 2 * arcs;
     let lanes_end = put_lanes(out, head_end, &work[start..end]);

@@ -1,5 +1,6 @@
 use mathlib.Core.Path.{refl, sym}
 use native.Mathlib.Omega.{arith}
+use Rattle.map.specs.Items.{kind_number}
 use Rattle.model.specs.Bytes.{put16, put16s}
 use Rattle.model.proofs.Bytes.{put16s-length}
 use Rattle.map_records.proofs.PutRecords.{put_as, record-length}
@@ -8,7 +9,7 @@ use Rattle.map_records.proofs.put_fields.Goals as goal
 
 pub put_header-end-requires : goal.put_header-end-requires
 put_header-end-requires c =
-    (omega arith, omega (arith, c.requires.1, record-length c.args.kind (put16s c.args.fields.now)))
+    (omega arith, omega (arith, c.requires.1, record-length (kind_number c.args.kind) (put16s c.args.fields.now)))
 
 pub loop-field-init : goal.loop-field-init
 loop-field-init c =

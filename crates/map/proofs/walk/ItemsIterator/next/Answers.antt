@@ -1,10 +1,9 @@
 -- `next` of `walk::Items` meets its contract: a record that is read is the first of those left, and where none is, none is left. Assumes nothing.
-use mathlib.Core.Path.{◌≡◌, refl, sym, ap, ◌∙◌}
-use mathlib.Core.List.{[], ◌∷◌}
+use mathlib.Core.Path.{◌≡◌, sym, ap, ◌∙◌}
+use mathlib.Core.List.{[]}
 use lib.ListN.{drop}
 use Rattle.std.proofs.Common.{rules, inl, inr}
-use Rattle.std.specs.Prelude.{Some, None, Ok}
-use Rattle.map.specs.declared.record.Record.{Record}
+use Rattle.std.specs.Prelude.{Some, Ok}
 use Rattle.model.specs.Framing.{frame}
 use Rattle.model.specs.Items.{items}
 use Rattle.map.specs.Walks.{Left}

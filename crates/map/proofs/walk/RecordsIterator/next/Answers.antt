@@ -1,11 +1,9 @@
 -- `next` of `walk::Records` meets its contract: what is read is where the walk stands, which then goes on.
 use mathlib.Core.Path.{◌≡◌, sym, ap, ◌∙◌}
 use Prim.Native.Nat.{◌<◌, ◌≤◌}
-use native.Mathlib.Omega.{arith}
 use lib.ListN.{length}
 use Rattle.std.proofs.Common.{rules}
-use Rattle.std.specs.Prelude.{Some, Ok, Err}
-use Rattle.map.specs.Records.{read_at}
+use Rattle.std.specs.Prelude.{Some}
 use Rattle.map.specs.Walks.{Position}
 use Rattle.map.proofs.Reading.{Next, next_record}
 use Rattle.map.proofs.Records.{broken_left}
