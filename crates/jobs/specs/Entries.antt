@@ -1,6 +1,6 @@
 -- Document 02, paper 6: what stands in a day's input. "The map is all records before the first job; a later record that is no job counts as one job
 -- refused with 10, and a broken tail, even with no job before it, as one refused with 1."
-use Rattle.std.specs.Prelude.{Bool, cond, not, List, [], ◌∷◌, ◌++◌, ℕ, ◌+◌, length, take, drop}
+use Rattle.std.specs.Prelude.{Bool, cond, List, [], ◌∷◌, ◌++◌, ℕ, ◌+◌, length, take, drop}
 use Rattle.model.specs.Framing.{Record, frame}
 use Rattle.model.specs.Items.{item_of, job_in}
 use Rattle.model.specs.Lists.{is_given}

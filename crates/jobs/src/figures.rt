@@ -1,90 +1,55 @@
 // What an answer adds to the day's figures, and a route to the tallies, as plain numbers.
-ghost use Rattle.std.specs.Prelude.{◌≡◌, ◌+◌, ◌^◌, ◌<◌, max, get_or};
+ghost use Rattle.std.specs.Prelude.{◌≡◌};
 ghost use Rattle.answer.specs.Numbers.{answer_of};
-ghost use Rattle.jobs.specs.Report.{numbers, without};
-ghost use Rattle.jobs.specs.Steps.{counted, with_expansions, with_cost, noted, Notable, Addable, Added, Talliable, Tallies};
+ghost use Rattle.jobs.specs.Report.{without};
+ghost use Rattle.jobs.specs.Steps.{noted, Notable, Addable, Added, Talliable, Tallies};
 
 use crate::{Day, Status};
 use answer::Answer;
 use map::number;
 
-fn wide(x: u32) -> u64
-    ensures { result ≡ x }
-{
-    x as u64
-}
-
-fn larger(a: u32, b: u32) -> u32
-    ensures { result ≡ max a b }
-{
-    if a < b {
-        return b;
+impl Day {
+    // The figures before any answer.
+    #[tactic(auto, unfolding(crate::specs::Report::without))]
+    pub fn without(status: Status) -> Day
+        ensures { result ≡ without status }
+    {
+        Day {
+            status,
+            counts: [0; number::END],
+            cost: 0,
+            largest: 0,
+            expansions: 0,
+        }
     }
-    a
-}
 
-pub fn none(status: Status) -> Day
-    ensures { result ≡ without status }
-{
-    Day {
-        status,
-        counts: [0; number::END],
-        cost: 0,
-        largest: 0,
-        expansions: 0,
+    // Every answer is counted by its number. A route adds its cost and its expansions, and no route its expansions; nothing else does.
+    #[tactic(auto, unfolding(crate::specs::Steps::noted, crate::specs::Steps::counted, crate::specs::Steps::with_expansions, crate::specs::Steps::with_cost))]
+    pub fn note(&mut self, a: Answer)
+        requires { Notable self.old (answer_of a) }
+        ensures { self.new ≡ noted self.old (answer_of a) }
+    {
+        self.counts[a.number as usize] += 1;
+        match a.number {
+            number::FOUND => {
+                self.cost += u64::from(a.cost);
+                self.largest = self.largest.max(a.cost);
+                self.expansions += a.expansions;
+            }
+            number::NO_ROUTE => self.expansions += a.expansions,
+            _ => {}
+        }
     }
 }
 
-fn counted(day: Day, number: u32) -> Day
-    requires { (number < numbers) × (get_or day.counts number 0 + 1 < 2 ^ 32) }
-    ensures { result ≡ counted day number }
-{
-    let n = area::index32(number);
-    let mut d = day;
-    d.counts[n] += 1;
-    d
-}
-
-fn with_expansions(day: Day, expansions: u32) -> Day
-    requires { day.expansions + expansions < 2 ^ 32 }
-    ensures { result ≡ with_expansions day expansions }
-{
-    let mut d = day;
-    d.expansions += expansions;
-    d
-}
-
-fn with_cost(day: Day, cost: u32) -> Day
-    requires { day.cost + cost < 2 ^ 64 }
-    ensures { result ≡ with_cost day cost }
-{
-    let mut d = day;
-    d.cost += wide(cost);
-    d.largest = larger(d.largest, cost);
-    d
-}
-
-// Every answer is counted by its number. A route adds its cost and its expansions, and no route its expansions; nothing else does.
-pub fn with_answer(day: Day, a: Answer) -> Day
-    requires { Notable day (answer_of a) }
-    ensures { result ≡ noted day (answer_of a) }
-{
-    let d = counted(day, a.number);
-    if a.number == number::FOUND {
-        return with_cost(with_expansions(d, a.expansions), a.cost);
-    }
-    if a.number == number::NO_ROUTE {
-        return with_expansions(d, a.expansions);
-    }
-    d
-}
-
+// The tallies are two lists of plain numbers side by side, the core below the tally of records that the tally's promise names.
+#[tactic(auto, unfolding(crate::specs::Steps::raised))]
 fn add_route(routes: &mut [u32], costs: &mut [u64], goal: usize, cost: u32)
     requires { Addable routes.old costs.old goal cost }
     ensures { Added routes.old costs.old goal cost routes.new costs.new }
 {
     routes[goal] += 1;
-    costs[goal] += wide(cost);
+    costs[goal] += u64::from(cost);
 }
 
 // A route adds to the tally of the goal at its end, which is the last place on its sheet.
@@ -95,7 +60,7 @@ pub fn tally_answer(a: Answer, sheet: &[u8], routes: &mut [u32], costs: &mut [u6
     if a.number != number::FOUND {
         return;
     }
-    let bytes = area::index32(a.sheet_bytes);
-    let goal = area::index(area::u16_at(sheet, bytes - 2));
+    let bytes = a.sheet_bytes as usize;
+    let goal = usize::from(area::u16_at(sheet, bytes - 2));
     add_route(routes, costs, goal, a.cost);
 }

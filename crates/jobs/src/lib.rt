@@ -13,7 +13,7 @@ use map::record::{Read, Record};
 use map::{Map, number, record};
 
 // How a report ended.
-#[derive(Clone, Copy)]
+#[derive(Clone, Copy, Debug, PartialEq, Eq)]
 pub enum Status {
     TooLong,
     ShortTally,
@@ -21,8 +21,8 @@ pub enum Status {
 }
 
 // The day's figures: how often each number was answered, the total and the largest cost of the routes, and the total of the expansions. All are 0
-// where there is no report.
-#[derive(Clone, Copy)]
+// where there is no report, since the report's promise gives a host zeros then, beside the status.
+#[derive(Clone, Copy, Debug, PartialEq, Eq)]
 pub struct Day {
     pub status: Status,
     pub counts: [u32; number::END],
@@ -37,7 +37,7 @@ const INPUT: usize = 65536;
 const ENTRIES: usize = 1000;
 
 // The figures of a report, and how many records of the tally it sets: none where it is refused.
-#[derive(Clone, Copy)]
+#[derive(Clone, Copy, Debug, PartialEq, Eq)]
 pub struct Reckoning {
     pub day: Day,
     pub records: usize,
@@ -66,7 +66,8 @@ fn run_record(
     router::route(&buffer[..stop], work, sheet)
 }
 
-// Runs all that stands behind a map of so many bytes, which the buffer holds at its front.
+// Runs all that stands behind a map of so many bytes, which the buffer holds at its front. What is lent comes slice by slice, as the caller has it
+// and as the router's call takes it; one struct of it would be made here only to be taken apart.
 fn run_all(
     input: &[u8],
     map: usize,
@@ -80,18 +81,19 @@ fn run_all(
     ensures { AllRun input.now work.old sheet.old result
         work.new sheet.new routes.new costs.new }
 {
-    let mut day = figures::none(Status::Reported);
+    let mut day = Day::without(Status::Reported);
     let mut at = map;
     loop {
         match record::read_at(input, at) {
             Read::Whole(r) => {
                 let a = run_record(input, map, r, buffer, work, sheet);
                 figures::tally_answer(a, sheet, routes, costs);
-                day = figures::with_answer(day, a);
+                day.note(a);
                 at = r.end;
             }
             Read::Broken => {
-                return figures::with_answer(day, answer::refused(number::BROKEN));
+                day.note(answer::refused(number::BROKEN));
+                return day;
             }
             Read::End => return day,
         }
@@ -102,7 +104,7 @@ fn refused(status: Status) -> Reckoning
     ensures { (result.day ≡ without status) × (result.records ≡ 0) }
 {
     Reckoning {
-        day: figures::none(status),
+        day: Day::without(status),
         records: 0,
     }
 }

@@ -19,7 +19,7 @@ broken : (c : In-Broken) → read_at c.args.input.now c.loop-r.at ≡ Broken
 broken c = sym c.read_at.ensures ∙ c.in-Broken.is
 
 pub loop-r-init : goal.loop-r-init
-loop-r-init c = (underway_start c.requires c.none-day.ensures, same_sizes)
+loop-r-init c = (underway_start c.requires c.without-day.ensures, same_sizes)
 
 pub run_record-a-requires : goal.run_record-a-requires
 run_record-a-requires c = next_runnable c.requires c.loop-r.invariant.0 (found (goal.at.run_record-a-requires c).In-Whole)
@@ -28,9 +28,9 @@ pub tally_answer-requires : goal.tally_answer-requires
 tally_answer-requires c =
     record_talliable c.requires c.loop-r.invariant.0 (bytes (goal.at.tally_answer-requires c).At-loop-r) (found (goal.at.tally_answer-requires c).In-Whole) c.run_record-a.ensures
 
-pub with_answer-day-requires : goal.with_answer-day-requires
-with_answer-day-requires c =
-    record_notable c.requires c.loop-r.invariant.0 (bytes (goal.at.with_answer-day-requires c).At-loop-r) (found (goal.at.with_answer-day-requires c).In-Whole) c.run_record-a.ensures
+pub note-requires : goal.note-requires
+note-requires c =
+    record_notable c.requires c.loop-r.invariant.0 (bytes (goal.at.note-requires c).At-loop-r) (found (goal.at.note-requires c).In-Whole) c.run_record-a.ensures
 
 pub loop-r-smaller : goal.loop-r-smaller
 loop-r-smaller c =
@@ -39,7 +39,7 @@ loop-r-smaller c =
 pub loop-r-preserved : goal.loop-r-preserved
 loop-r-preserved c =
     let same = c.loop-r.invariant.1 in (
-      record_underway c.requires c.loop-r.invariant.0 (bytes (goal.at.loop-r-preserved c).At-loop-r) (found (goal.at.loop-r-preserved c).In-Whole) c.run_record-a.ensures c.with_answer-day.ensures c.tally_answer.ensures,
+      record_underway c.requires c.loop-r.invariant.0 (bytes (goal.at.loop-r-preserved c).At-loop-r) (found (goal.at.loop-r-preserved c).In-Whole) c.run_record-a.ensures c.note.ensures c.tally_answer.ensures,
       record {
         work_same = c.run_record-a.auto.work ∙ same.work_same;
         sheet_same = c.run_record-a.auto.sheet ∙ same.sheet_same;
@@ -48,13 +48,13 @@ loop-r-preserved c =
       },
     )
 
-pub with_answer-requires : goal.with_answer-requires
-with_answer-requires c =
-    tail_notable c.requires c.loop-r.invariant.0 (bytes (goal.at.with_answer-requires c).At-loop-r) (broken (goal.at.with_answer-requires c).In-Broken) c.refused.ensures
+pub note-requires-in-Broken : goal.note-requires-in-Broken
+note-requires-in-Broken c =
+    tail_notable c.requires c.loop-r.invariant.0 (bytes (goal.at.note-requires-in-Broken c).At-loop-r) (broken (goal.at.note-requires-in-Broken c).In-Broken) c.refused.ensures
 
 pub returns-in-Broken : goal.returns-in-Broken
 returns-in-Broken c =
-    tail_run c.requires c.loop-r.invariant.0 (bytes (goal.at.returns-in-Broken c).At-loop-r) (broken (goal.at.returns-in-Broken c).In-Broken) c.refused.ensures c.with_answer.ensures
+    tail_run c.requires c.loop-r.invariant.0 (bytes (goal.at.returns-in-Broken c).At-loop-r) (broken (goal.at.returns-in-Broken c).In-Broken) c.refused.ensures c.note-in-Broken.ensures
 
 pub returns-in-End : goal.returns-in-End
 returns-in-End c =
