@@ -21,8 +21,10 @@ use Rattle.model.proofs.Framing.{frame-none, frame_short, frame_cons, frame_more
 use Rattle.model.proofs.Items.{KindOf, is-head, is_lane, is_estimate, is_job_lem, is_measured, is_wait, is_factors, is_default, is_other_lem, kind_of}
 use Rattle.area.specs.Part.{part}
 use Rattle.map.specs.declared.record as declared
-use Rattle.map.specs.declared.record.Read.TheVariants.{Whole, Broken, End}
-use Rattle.map.specs.Records.{read_at, record_in}
+use Rattle.std.specs.Prelude.{Result, Some, None, Ok, Err}
+use Rattle.map.specs.declared.refusal.Refusal.{Refusal}
+use Rattle.map.specs.Walks.{Position, NextReads}
+use Rattle.map.specs.Records.{Read, read_at, record_in}
 use Rattle.map.proofs.Records as reading
 use Rattle.jobs.specs.Entries.{Entry, alone, refused, is_job, before_job, from_job, bytes_of, map_in, entry_of, entries_of, tail_of, entries}
 use Rattle.jobs.specs.Steps.{bytes_in, left_at}
@@ -152,7 +154,7 @@ module _ (input : List ℕ) where
 
 module _ (input : List ℕ) (at : ℕ) (inside : at ≤ length input) where
   -- a record that was read takes the bytes from here up to its end
-  pub whole_bytes : (r : declared.Record.Record) → read_at input at ≡ Whole r → at + bytes_of (record_in input r) ≡ r.end
+  pub whole_bytes : (r : declared.Record.Record) → read_at input at ≡ Some (Ok r) → at + bytes_of (record_in input r) ≡ r.end
   unfolding bytes_of
   whole_bytes r e =
       let is = reading.frame_whole input at inside r e in
@@ -161,7 +163,7 @@ module _ (input : List ℕ) (at : ℕ) (inside : at ≤ length input) where
       omega (arith, is.begins, is.lies.forward)
 
   -- a whole record is the first entry left, and the others begin where it ends
-  pub left_whole : (r : declared.Record.Record) → read_at input at ≡ Whole r
+  pub left_whole : (r : declared.Record.Record) → read_at input at ≡ Some (Ok r)
       → left_at input at ≡ entry_of (map_in input) (record_in input r) (bytes_in input r) ∷ left_at input r.end
   unfolding left_at entries_of push part
   left_whole r e =
@@ -172,14 +174,21 @@ module _ (input : List ℕ) (at : ℕ) (inside : at ≤ length input) where
       rw (is.framed, drop-drop (bytes_of (record_in input r)) at input, all, size, start)
 
   -- a broken tail is the only entry left
-  pub left_broken : read_at input at ≡ Broken → left_at input at ≡ refused 1 ∷ []
+  pub left_broken : {r : Refusal} → read_at input at ≡ Some (Err r) → left_at input at ≡ refused 1 ∷ []
   unfolding left_at entries_of tail_of stop
-  left_broken e = rw (reading.frame_broken input at inside e)
+  left_broken {r} e = rw (reading.frame_broken input at inside r e).1
 
   -- at the end none is left
-  pub left_end : read_at input at ≡ End → left_at input at ≡ []
+  pub left_end : read_at input at ≡ None → left_at input at ≡ []
   unfolding left_at entries_of tail_of stop
   left_end e = rw (reading.frame_end input at inside e).1
+
+-- behind the last byte none is left
+pub end_left : (input : List ℕ) → left_at input (length input) ≡ []
+unfolding read_at
+end_left input =
+    let nothing : length input - length input ≡ 0 = omega arith in
+    left_end input (length input) (omega arith) (rw (eq-eqb _ _ nothing))
 
 -- ---- All of them
 
@@ -295,66 +304,98 @@ job_by_kind r = go (item_of r) (kind_of r)
     go i (is_default k) = rw k
     go i (is_other_lem a b c not-job d e f g) = sym (ne_eqb r.kind job_kind not-job)
 
--- the map is the bytes before `at` and the records from there up to the first job
-pub record MapLeft (input : List ℕ) (at : ℕ) : Type 0 where
-  pub inside : at ≤ length input
-  pub ends : length (map_in input) ≡ at + sum_over bytes_of (before_job (frame (drop at input)).records)
+-- what a step of a walk over the input reads, and where it stands
+pub at_step : {input : List ℕ} {s t : Position} {read : Read} → s.input ≡ input → NextReads s read t → (s.at ≤ length input) × (read_at input s.at ≡ read)
+at_step same step = (rw same at step.inside, sym (rw same at step.reads))
 
-pub map-begins : (input : List ℕ) → MapLeft input 0
-map-begins input = record { inside = omega arith; ends = omega (arith, map_length input) }
+-- the map is the bytes before the place of the walk, and the records from there up to the first job
+pub record MapLeft (input : List ℕ) (s : Position) (bytes : ℕ) : Type 0 where
+  pub same : s.input ≡ input
+  pub walked : s.at ≡ bytes
+  pub ends : length (map_in input) ≡ bytes + sum_over bytes_of (before_job (frame (drop bytes input)).records)
 
-module _ {input : List ℕ} {at : ℕ} (m : MapLeft input at) where
-  -- it ends where no record is left, and at a job
-  pub map_ends : (frame (drop at input)).records ≡ [] → at ≡ length (map_in input)
+pub map-begins : {input : List ℕ} {s : Position} → s ≡ record { input = input; at = 0 } → MapLeft input s 0
+map-begins {input} {s} is =
+    rw is (record { same = refl; walked = refl; ends = omega (arith, map_length input) })
+
+module _ {input : List ℕ} {s t : Position} {bytes : ℕ} {read : Read} (m : MapLeft input s bytes) (step : NextReads s read t) where
+  inside : bytes ≤ length input
+  inside = rw m.walked at (at_step m.same step).0
+
+  here : read_at input bytes ≡ read
+  here = rw m.walked at (at_step m.same step).1
+
+  -- it ends where no record is left
+  none_read : (frame (drop bytes input)).records ≡ [] → bytes ≡ length (map_in input)
   unfolding before_job sum_over
-  map_ends none = omega (arith, rw none at m.ends)
+  none_read none = omega (arith, rw none at m.ends)
 
-  module _ {r : declared.Record.Record} (read : read_at input at ≡ Whole r) where
+  pub map_broken : {r : Refusal} → read ≡ Some (Err r) → bytes ≡ length (map_in input)
+  unfolding stop
+  map_broken {r} is = none_read (ap (λ (f : Framed). f.records) (reading.frame_broken input bytes inside r (here ∙ is)).1)
+
+  pub map_ends : read ≡ None → bytes ≡ length (map_in input)
+  unfolding stop
+  map_ends is = none_read (ap (λ (f : Framed). f.records) (reading.frame_end input bytes inside (here ∙ is)).1)
+
+  module _ {r : declared.Record.Record} (is : read ≡ Some (Ok r)) where
     first_left : length (map_in input)
-        ≡ at + sum_over bytes_of (cond (eqb r.kind job_kind) [] (record_in input r ∷ before_job (frame (drop r.end input)).records))
+        ≡ bytes + sum_over bytes_of (cond (eqb r.kind job_kind) [] (record_in input r ∷ before_job (frame (drop r.end input)).records))
     unfolding push before_job
     first_left =
-        let is = reading.frame_whole input at m.inside r read in
-        rw (is.framed, job_by_kind (record_in input r)) at m.ends
+        let whole = reading.frame_whole input bytes inside r (here ∙ is) in
+        rw (whole.framed, job_by_kind (record_in input r)) at m.ends
 
-    pub map_ends_at_job : r.kind ≡ job_kind → at ≡ length (map_in input)
+    -- and at a job
+    pub map_ends_at_job : r.kind ≡ job_kind → bytes ≡ length (map_in input)
     unfolding sum_over
     map_ends_at_job job = omega (arith, rw (eq-eqb r.kind job_kind job) at first_left)
 
     -- a record that is no job is one of the map's
-    pub map_goes_on : (r.kind ≡ job_kind → ⊥) → MapLeft input r.end
+    pub map_goes_on : (r.kind ≡ job_kind → ⊥) → MapLeft input t r.end
     unfolding sum_over
     map_goes_on not-job =
-        let is = reading.frame_whole input at m.inside r read in
         record {
-          inside = is.lies.ends;
-          ends = omega (arith, rw (ne_eqb r.kind job_kind not-job) at first_left, whole_bytes input at m.inside r read);
+          same = step.same ∙ m.same;
+          walked = rw is at step.moves;
+          ends = omega (arith, rw (ne_eqb r.kind job_kind not-job) at first_left, whole_bytes input bytes inside r (here ∙ is));
         }
 
 -- ---- Counting the entries
 
--- n entries stand before byte `at`, each of one byte or more, and the others from there on
-pub record CountLeft (input : List ℕ) (at n : ℕ) : Type 0 where
-  pub inside : at ≤ length input
-  pub few : n ≤ at
-  pub all : length (entries input) ≡ n + length (left_at input at)
+-- n entries stand before the place of the walk, each of one byte or more, and the others from there on
+pub record CountLeft (input : List ℕ) (s : Position) (n : ℕ) : Type 0 where
+  pub same : s.input ≡ input
+  pub few : n ≤ s.at
+  pub all : length (entries input) ≡ n + length (left_at input s.at)
 
-pub count_begins : {input : List ℕ} {at : ℕ} → at ≡ length (map_in input) → CountLeft input at 0
-count_begins {input} is =
-    rw is (record { inside = map_inside input; few = omega arith; all = omega (arith, ap length (start_left input)) })
+pub count_begins : {input : List ℕ} {s : Position} {at : ℕ} → s ≡ record { input = input; at = at } → at ≡ length (map_in input) → CountLeft input s 0
+count_begins {input} is from =
+    rw (is, from) (record { same = refl; few = omega arith; all = omega (arith, ap length (start_left input)) })
 
-module _ {input : List ℕ} {at n : ℕ} (k : CountLeft input at n) where
-  pub count_goes_on : {r : declared.Record.Record} → read_at input at ≡ Whole r → CountLeft input r.end (n + 1)
-  count_goes_on {r} read =
-      let is = reading.frame_whole input at k.inside r read in
-      record {
-        inside = is.lies.ends;
-        few = omega (arith, k.few, is.begins, is.lies.forward);
-        all = omega (arith, k.all, ap length (left_whole input at k.inside r read));
-      }
+module _ {input : List ℕ} {s t : Position} {n : ℕ} {read : Read} (k : CountLeft input s n) (step : NextReads s read t) where
+  abbrev place : (s.at ≤ length input) × (read_at input s.at ≡ read)
+  place = at_step k.same step
 
-  pub count_broken : read_at input at ≡ Broken → n + 1 ≡ length (entries input)
-  count_broken read = omega (arith, k.all, ap length (left_broken input at k.inside read))
+  pub count_goes_on : {x : Result declared.Record.Record Refusal} → read ≡ Some x → CountLeft input t (n + 1)
+  count_goes_on {x} is = go x is
+    where
+      go : (x : Result declared.Record.Record Refusal) → read ≡ Some x → CountLeft input t (n + 1)
+      go (Ok r) is =
+          let next = reading.frame_whole input s.at place.0 r (place.1 ∙ is) in
+          let at : t.at ≡ r.end = rw is at step.moves in
+          record {
+            same = step.same ∙ k.same;
+            few = omega (arith, at, k.few, next.begins, next.lies.forward);
+            all = rw at (omega (arith, k.all, ap length (left_whole input s.at place.0 r (place.1 ∙ is))));
+          }
+      go (Err r) is =
+          let at : t.at ≡ length input = rw (is, k.same) at step.moves in
+          record {
+            same = step.same ∙ k.same;
+            few = omega (arith, at, k.few, reading.broken_left input s.at place.0 r (place.1 ∙ is));
+            all = rw (at, end_left input) (omega (arith, k.all, ap length (left_broken input s.at place.0 (place.1 ∙ is))));
+          }
 
-  pub count_ends : read_at input at ≡ End → n ≡ length (entries input)
-  count_ends read = omega (arith, k.all, ap length (left_end input at k.inside read))
+  pub count_ends : read ≡ None → n ≡ length (entries input)
+  count_ends is = omega (arith, k.all, ap length (left_end input s.at place.0 (place.1 ∙ is)))

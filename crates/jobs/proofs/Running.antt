@@ -12,8 +12,12 @@ use Rattle.model.specs.Answer.{Result, answer, refused_with}
 use Rattle.model.specs.Bytes.{Bytes}
 use Rattle.model.specs.Lists.{filter}
 use Rattle.map.specs.declared.record.Record.{Record}
-use Rattle.map.specs.declared.record.Read.TheVariants.{Whole, Broken, End}
-use Rattle.map.specs.Records.{read_at, record_in}
+use Rattle.std.specs.Prelude.{Some, None, Ok, Err}
+use Rattle.map.specs.declared.refusal.Refusal.{Refusal}
+use Rattle.map.specs.Refusals.{number_of}
+use Rattle.map.proofs.Records.{frame_broken}
+use Rattle.map.specs.Records.{Read, read_at, record_in}
+use Rattle.map.specs.Walks.{Position, NextReads}
 use Rattle.map.proofs.Records.{frame_whole}
 use Rattle.answer.specs.declared.Answer.{Answer}
 use Rattle.answer.specs.Numbers.{answer_of}
@@ -25,7 +29,7 @@ use Rattle.jobs.specs.Report.{max_input, max_entries, without}
 use Rattle.jobs.specs.Steps.{noted, Notable, Talliable, Tallies, Runnable, bytes_in, RecordRun, left_at, results_in, Startable}
 use Rattle.jobs.specs.Steps.{Underway, AllRun}
 use Rattle.jobs.proofs.Bounded.{Bounded}
-use Rattle.jobs.proofs.EntryLaws.{map_inside, start_left, left_whole, left_broken, left_end, all_sound}
+use Rattle.jobs.proofs.EntryLaws.{map_inside, start_left, left_whole, left_broken, left_end, end_left, all_sound}
 use Rattle.jobs.proofs.FigureLaws.{figures-none, routes_none, costs_none, figures_next, routes_next, costs_next, notable, talliable}
 use Rattle.jobs.proofs.ResultLaws.{results_bounded, results-length}
 use Rattle.jobs.proofs.Tallying.{tallies_none}
@@ -40,6 +44,12 @@ pub record SameSizes (work₀ sheet₀ routes₀ costs₀ work sheet routes cost
 pub same_sizes : {work sheet routes costs : List ℕ} → SameSizes work sheet routes costs work sheet routes costs
 same_sizes = record { work_same = refl; sheet_same = refl; routes_same = refl; costs_same = refl }
 
+-- the entries before the place of a walk over the input have been run, and the others are left
+pub record Walked (input work₀ sheet₀ routes₀ costs₀ : List ℕ) (s : Position) (d : Day) (buffer work sheet routes costs : List ℕ) : Type 0 where
+  pub same : s.input ≡ input
+  pub underway : Underway input work₀ sheet₀ s.at d buffer work sheet routes costs
+  pub sizes : SameSizes work₀ sheet₀ routes₀ costs₀ work sheet routes costs
+
 -- the areas after one result more are those that it leaves
 work_after_lem : (rs : List Result) (r : Result) (work : List ℕ) → work_after (rs ++ (r ∷ [])) work ≡ r.work
 unfolding work_after
@@ -52,13 +62,6 @@ sheet_after_lem [] r sheet = refl
 sheet_after_lem (s ∷ rs) r sheet = sheet_after_lem rs r s.sheet
 
 -- ---- Nothing left
-
--- behind the last byte no entry is left
-none_left : (input : List ℕ) → left_at input (length input) ≡ []
-unfolding read_at
-none_left input =
-    let nothing : length input - length input ≡ 0 = omega arith in
-    left_end input (length input) (omega arith) (rw (eq-eqb _ _ nothing))
 
 -- where no entry is left, all have been run
 all_run : {input work₀ sheet₀ : List ℕ} {at : ℕ} {d : Day} {buffer work sheet routes costs : List ℕ}
@@ -153,16 +156,16 @@ module _ {input : List ℕ} {map : ℕ} {buffer₀ routes₀ costs₀ : List ℕ
 
   module _ {at : ℕ} {d : Day} {buffer work sheet routes costs : List ℕ} (u : Underway input work₀ sheet₀ at d buffer work sheet routes costs) where
     -- At the end all have been run.
-    pub end_run : read_at input at ≡ End → AllRun input work₀ sheet₀ d work sheet routes costs
+    pub end_run : read_at input at ≡ None → AllRun input work₀ sheet₀ d work sheet routes costs
     end_run read = all_run u (left_end input at u.inside read)
 
     -- A record that is read next can be run.
-    pub next_runnable : {r : Record} → read_at input at ≡ Whole r → Runnable input map r buffer
+    pub next_runnable : {r : Record} → read_at input at ≡ Some (Ok r) → Runnable input map r buffer
     next_runnable {r} read =
         let is = frame_whole input at u.inside r read in
         record { lies = is.lies; behind = omega arith; short = can.short; room = u.room }
 
-    module _ {r : Record} (B : Bytes input) (read : read_at input at ≡ Whole r) {a : Answer} {buffer₁ work₁ sheet₁ : List ℕ}
+    module _ {r : Record} (B : Bytes input) (read : read_at input at ≡ Some (Ok r)) {a : Answer} {buffer₁ work₁ sheet₁ : List ℕ}
         (ran : RecordRun input map r buffer work sheet a buffer₁ work₁ sheet₁) where
       map_is : take map buffer ≡ map_in input
       map_is = rw can.map_bytes u.map_there
@@ -192,23 +195,27 @@ module _ {input : List ℕ} {map : ℕ} {buffer₀ routes₀ costs₀ : List ℕ
       record_underway day tallied =
           underway_next B can.few u record_next day tallied (rw (← can.map_bytes) (ran.map_stays ∙ map_is)) ran.room
 
-    module _ (B : Bytes input) (read : read_at input at ≡ Broken) {a : Answer} (is : answer_of a ≡ answer 1 0 0 0 0 0 0) where
-      tail_next : Next input at work sheet (length input) (record { answer = answer_of a; work = work; sheet = sheet })
-      unfolding result_of refused_with
-      tail_next =
-          record {
-            entry = refused 1;
-            first = rw (none_left input) (left_broken input at u.inside read);
-            comes = rw is;
-            forward = u.inside;
-            inside = omega arith;
-          }
+    module _ (B : Bytes input) {e : Refusal} (read : read_at input at ≡ Some (Err e)) {a : Answer} (is : answer_of a ≡ answer (number_of e) 0 0 0 0 0 0)
+      where
+        refused_first : answer_of a ≡ answer 1 0 0 0 0 0 0
+        refused_first = is ∙ rw (frame_broken input at u.inside e read).0
 
-      -- The refusal of a broken tail can be noted, and with it all have been run.
-      pub tail_notable : Notable d (answer_of a)
-      tail_notable = notable_next B can.few u tail_next
+        tail_next : Next input at work sheet (length input) (record { answer = answer_of a; work = work; sheet = sheet })
+        unfolding result_of refused_with
+        tail_next =
+            record {
+              entry = refused 1;
+              first = rw (end_left input) (left_broken input at u.inside read);
+              comes = rw refused_first;
+              forward = u.inside;
+              inside = omega arith;
+            }
 
-      pub tail_run : {d₁ : Day} → d₁ ≡ noted d (answer_of a) → AllRun input work₀ sheet₀ d₁ work sheet routes costs
-      tail_run day =
-          let number : a.number ≡ 1 = ap (λ (b : model.Answer). b.number) is in
-          all_run (underway_next B can.few u tail_next day (tallies_none (λ e. omega arith)) u.map_there u.room) (none_left input)
+        -- The refusal of a broken tail can be noted, and then all have been run.
+        pub tail_notable : Notable d (answer_of a)
+        tail_notable = notable_next B can.few u tail_next
+
+        pub tail_underway : {d₁ : Day} → d₁ ≡ noted d (answer_of a) → Underway input work₀ sheet₀ (length input) d₁ buffer work sheet routes costs
+        tail_underway day =
+            let number : a.number ≡ 1 = ap (λ (b : model.Answer). b.number) refused_first in
+            underway_next B can.few u tail_next day (tallies_none (λ e. omega arith)) u.map_there u.room

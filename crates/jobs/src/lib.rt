@@ -9,7 +9,9 @@ ghost use Rattle.jobs.specs.Report.{without};
 ghost use Rattle.jobs.specs.Steps.{Runnable, RecordRun, Startable, AllRun, Blank, Reckoned};
 
 use answer::Answer;
-use map::record::{Read, Record};
+use map::record::{Kind, Record};
+use map::refusal::Refusal;
+use map::walk::Records;
 use map::{Map, number, record};
 
 // How a report ended.
@@ -56,8 +58,8 @@ fn run_record(
     ensures { RecordRun input.now map r buffer.old work.old sheet.old result
         buffer.new work.new sheet.new }
 {
-    if r.kind != record::JOB_KIND {
-        return answer::refused(number::WRONG_JOB);
+    if r.kind != Kind::Job as u16 {
+        return answer::refused(Refusal::WrongJob.number());
     }
     let start = r.start - record::HEADER;
     let end = r.end;
@@ -82,22 +84,17 @@ fn run_all(
         work.new sheet.new routes.new costs.new }
 {
     let mut day = Day::without(Status::Reported);
-    let mut at = map;
-    loop {
-        match record::read_at(input, at) {
-            Read::Whole(r) => {
+    for record in Records::from(input, map) {
+        match record {
+            Ok(r) => {
                 let a = run_record(input, map, r, buffer, work, sheet);
                 figures::tally_answer(a, sheet, routes, costs);
                 day.note(a);
-                at = r.end;
             }
-            Read::Broken => {
-                day.note(answer::refused(number::BROKEN));
-                return day;
-            }
-            Read::End => return day,
+            Err(refusal) => day.note(answer::refused(refusal.number())),
         }
     }
+    day
 }
 
 fn refused(status: Status) -> Reckoning

@@ -1,26 +1,21 @@
 use mathlib.Core.Path.{◌≡◌, sym, ◌∙◌}
-use Rattle.map.specs.declared.record.Read.TheVariants.{Whole}
-use Rattle.map.specs.Records.{read_at}
-use Rattle.map.proofs.Records.{less_left}
-use Rattle.jobs.proofs.EntryLaws.{count_begins, count_goes_on, count_broken, count_ends}
-use Rattle.jobs.proofs.entries.count.Goals.{In-Whole}
+use native.Mathlib.Omega.{arith}
+use Rattle.jobs.proofs.EntryLaws.{map_inside, at_step, count_begins, count_goes_on, count_ends}
 use Rattle.jobs.proofs.entries.count.Goals as goal
 
--- the record that was read
-found : (c : In-Whole) → read_at c.args.input.now c.loop-r.at ≡ Whole c.in-Whole.r
-found c = sym c.read_at.ensures ∙ c.in-Whole.is
+pub from-record-items-requires : goal.from-record-items-requires
+from-record-items-requires c = rw c.requires (map_inside c.args.input.now)
 
-pub loop-r-init : goal.loop-r-init
-loop-r-init c = count_begins c.requires
+pub loop-record-init : goal.loop-record-init
+loop-record-init c = count_begins (c.into_iter-record-iterator.ensures.into_iter_gives ∙ c.from-record-items.ensures) c.requires
 
-pub loop-r-smaller : goal.loop-r-smaller
-loop-r-smaller c = less_left _ _ c.loop-r.invariant.inside _ (found c)
+pub overflow_add-entries : goal.overflow_add-entries
+overflow_add-entries c =
+    let inside = (at_step c.loop-record.invariant.same c.next.ensures.steps).0 in
+    omega (arith, inside, c.loop-record.invariant.few)
 
-pub loop-r-preserved : goal.loop-r-preserved
-loop-r-preserved c = count_goes_on c.loop-r.invariant (found c)
+pub loop-record-preserved : goal.loop-record-preserved
+loop-record-preserved c = count_goes_on c.loop-record.invariant c.next.ensures.steps c.in-Some.is
 
-pub returns-in-Broken : goal.returns-in-Broken
-returns-in-Broken c = count_broken c.loop-r.invariant (sym c.read_at.ensures ∙ c.in-Broken.is)
-
-pub returns-in-End : goal.returns-in-End
-returns-in-End c = count_ends c.loop-r.invariant (sym c.read_at.ensures ∙ c.in-End.is)
+pub returns : goal.returns
+returns c = count_ends c.loop-record.invariant c.next.ensures.steps c.in-None.is
