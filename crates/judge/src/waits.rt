@@ -45,8 +45,9 @@ fn note_all(input: &[u8], noted: &mut [u32; Map::PLACES]) -> bool
 {
     let mut twice = false;
     for item in Items::of(input) {
-        let again = note(item, noted);
-        twice = twice | again;
+        if note(item, noted) {
+            twice = true;
+        }
     }
     twice
 }
@@ -82,11 +83,12 @@ fn any_too_dear(input: &[u8], factors: &[u32; Map::CLASS + 1], noted: &[u32; Map
     requires { Weighable factors.now input.now noted.now }
     ensures { result ≡ any_too_dear (stated_in input.now) }
 {
-    let mut dear = false;
     for item in Items::of(input) {
-        dear = dear | too_dear(item, factors, noted);
+        if too_dear(item, factors, noted) {
+            return true;
+        }
     }
-    dear
+    false
 }
 
 // The input has so many waits, and these are its factors.

@@ -13,7 +13,8 @@ use Rattle.map.specs.Items.{lane_meant, measured_meant, meant, of_map}
 use Rattle.map.specs.Walks.{Left, all_of, NextSays, Walking}
 
 -- the walk has come to a record that says i, and `rest` is what is left after it
-pub record Comes {S : Type 0} (I : List model.Item → S → Type 0) (input : List ℕ) (kept : S) (i : Item) (rest : List model.Item) : Type 0 where
+pub record Comes {S : Type 0} (I : List model.Item → S → Type 0) (input : List ℕ) (kept : S) (i : Item) (rest : List model.Item)
+    : Type 0 where
   pub in_all : Memᴰ (meant input i) (items (frame input).records)
   pub first : I (meant input i ∷ rest) kept
 
