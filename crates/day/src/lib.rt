@@ -1,4 +1,5 @@
-// The day's report: each job of an input is run as if it were alone with the map, and the figures of all of them are given, with a tally by goal.
+// The day's report: each job of an input is run as if it were alone with the map, and the figures of all of them are given, with a tally by
+// goal.
 #![tactic(auto)]
 
 mod host;

@@ -21,7 +21,7 @@ use Rattle.jobs.specs.Report.{numbers, max_input, max_entries, figures, Reports}
 
 -- ---- Figures
 
-unfoldable pub counted : Day → ℕ → Day
+abbrev pub counted : Day → ℕ → Day
 counted d n =
     record {
       status = d.status;
@@ -31,11 +31,11 @@ counted d n =
       expansions = d.expansions;
     }
 
-unfoldable pub with_expansions : Day → ℕ → Day
+abbrev pub with_expansions : Day → ℕ → Day
 with_expansions d x =
     record { status = d.status; counts = d.counts; cost = d.cost; largest = d.largest; expansions = d.expansions + x }
 
-unfoldable pub with_cost : Day → ℕ → Day
+abbrev pub with_cost : Day → ℕ → Day
 with_cost d c =
     record { status = d.status; counts = d.counts; cost = d.cost + c; largest = max d.largest c; expansions = d.expansions }
 

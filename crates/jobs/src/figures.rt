@@ -24,7 +24,7 @@ impl Day {
     }
 
     // Every answer is counted by its number. A route adds its cost and its expansions, and no route its expansions; nothing else does.
-    #[tactic(auto, unfolding(crate::specs::Steps::noted, crate::specs::Steps::counted, crate::specs::Steps::with_expansions, crate::specs::Steps::with_cost))]
+    #[tactic(auto, unfolding(crate::specs::Steps::noted))]
     pub fn note(&mut self, a: Answer)
         requires { Notable self.old (answer_of a) }
         ensures { self.new ≡ noted self.old (answer_of a) }

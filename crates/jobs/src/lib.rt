@@ -22,8 +22,8 @@ pub enum Status {
     Reported,
 }
 
-// The day's figures: how often each number was answered, the total and the largest cost of the routes, and the total of the expansions. All are 0
-// where there is no report, since the report's promise gives a host zeros then, beside the status.
+// The day's figures: how often each number was answered, the total and the largest cost of the routes, and the total of the expansions. All
+// are 0 where there is no report: the report promises zeros then, beside the status.
 #[derive(Clone, Copy, Debug, PartialEq, Eq)]
 pub struct Day {
     pub status: Status,
@@ -68,8 +68,8 @@ fn run_record(
     router::route(&buffer[..stop], work, sheet)
 }
 
-// Runs all that stands behind a map of so many bytes, which the buffer holds at its front. What is lent comes slice by slice, as the caller has it
-// and as the router's call takes it; one struct of it would be made here only to be taken apart.
+// Runs all that stands behind a map of so many bytes, which the buffer holds at its front. What is lent comes slice by slice, as the caller
+// has it and as the router's call takes it; one struct of it would be made here only to be taken apart.
 fn run_all(
     input: &[u8],
     map: usize,

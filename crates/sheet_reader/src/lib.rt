@@ -15,8 +15,8 @@ pub use map::number::{FOUND, NO_ROUTE};
 // How many places a reading has room for.
 pub const PLACES: usize = Map::PLACES;
 
-// What a sheet says: the read's number, the cost, and the places with zeros after the last. The places are an array with their count beside it,
-// as the calls use no heap.
+// What a sheet says: the read's number, the cost, and the places with zeros after the last. The places are an array with their count beside
+// it, as the calls use no heap.
 #[derive(Debug, PartialEq, Eq, Drop)]
 pub struct Reading {
     pub number: u32,
@@ -54,7 +54,7 @@ fn refused(refusal: Refusal) -> Reading
     }
 }
 
-// The places of a route sheet's body, if a job could have them. One pass: a place that is no place of any map, or that was seen before, ends it.
+// The places of a route sheet's body, if a job could have them. One pass, which ends at a place that no map has, or that was seen before.
 fn places_of(body: &[u8], count: usize) -> Option<[u16; Map::PLACES]>
     requires { (6 + 2 * count ≤ length body.now) × (count ≤ max_places) }
     ensures { result ≡ listed body.now count }

@@ -2,27 +2,16 @@
 // elsewhere.
 #![tactic(auto)]
 
-ghost use Rattle.std.specs.Prelude.{◌≡◌, ◌<◌, ◌^◌};
-ghost use Rattle.tally.specs.Tallied.{tally_with, Puttable, put_to};
+ghost use Rattle.std.specs.Prelude.{◌≡◌};
+ghost use Rattle.tally.specs.Tallied.{Puttable, put_to};
 
 // A goal, the routes that end there, and their cost.
 #[repr(C)]
-#[derive(Clone, Copy)]
+#[derive(Clone, Copy, Debug, PartialEq, Eq)]
 pub struct Tally {
     pub goal: u32,
     pub routes: u32,
     pub cost: u64,
-}
-
-fn tally_with(goal: usize, routes: u32, cost: u64) -> Tally
-    requires { goal < 2 ^ 32 }
-    ensures { result ≡ tally_with goal routes cost }
-{
-    Tally {
-        goal: goal as u32,
-        routes,
-        cost,
-    }
 }
 
 // Record g, for each g below n, holds g with the routes and the cost that stand at g in the lists; later records stay.
@@ -30,10 +19,11 @@ pub fn put(tally: &mut [Tally], routes: &[u32], costs: &[u64], n: usize)
     requires { Puttable n tally.old routes.now costs.now }
     ensures { tally.new ≡ put_to n routes.now costs.now tally.old }
 {
-    let mut g = 0;
-    while g < n {
-        let t = tally_with(g, routes[g], costs[g]);
-        tally[g] = t;
-        g = g + 1;
+    for g in 0..n {
+        tally[g] = Tally {
+            goal: g as u32,
+            routes: routes[g],
+            cost: costs[g],
+        };
     }
 }
