@@ -4,9 +4,11 @@
 // that fails; such a write is tried again.
 #![tactic(auto)]
 
-ghost use Rattle.console.specs.Reading.{Within};
+ghost use Rattle.std.specs.Prelude.{IfOk};
+ghost use Rattle.io.specs.Counts.{IsPrefixLen};
 
 use map::Map;
+use std::io;
 use std::io::{Print, Read};
 
 // The longest input, and the words that are lent to the call for work, as document 01 has them.
@@ -17,43 +19,25 @@ pub const WORK: usize = 16384;
 // The bytes that are lent for the sheet: as many as the largest map asks for.
 pub const SHEET: usize = Map::SHEET_BYTES;
 
-// What reading to the end found: so many bytes, or a read that failed.
-#[derive(Clone, Copy)]
-pub enum Input {
-    Bytes(usize),
-    Failed,
-}
-
-// One read: no bytes at the end of the input.
-fn read_some<R: Read>(from: &mut R, buf: &mut [u8]) -> Input
-    ensures { Within result buf.new }
-{
-    match from.read(buf) {
-        Ok(got) => Input::Bytes(got),
-        Err(_) => Input::Failed,
-    }
-}
-
-// Reads until the input ends or buf is full. What came before a read that fails is not told, since it is no whole input.
-pub fn read_all<R: Read>(from: &mut R, buf: &mut [u8]) -> Input
-    ensures { Within result buf.new }
+// Reads until the input ends or buf is full: how many bytes stand at its front then. What came before a read that fails is not told, since it
+// is no whole input.
+pub fn read_all<R: Read>(from: &mut R, buf: &mut [u8]) -> io::Result<usize>
+    ensures { IfOk result (λ n. IsPrefixLen n buf.new) }
 {
     let mut done = 0;
     while done < buf.len() {
-        let Input::Bytes(more) = read_some(from, &mut buf[done..]) else {
-            return Input::Failed;
-        };
+        let more = from.read(&mut buf[done..])?;
         if more == 0 {
-            return Input::Bytes(done);
+            break;
         }
         done += more;
     }
-    Input::Bytes(done)
+    Ok(done)
 }
 
 // One line on standard error. Where that fails too, there is nowhere left to say so.
 pub fn complain<E: Print>(err: &E, line: &[u8]) {
-    let _told = err.write_all(line).is_ok();
+    let _ = err.write_all(line);
 }
 
 // All of a text on standard output, or the complaint on standard error.

@@ -1,11 +1,10 @@
 -- The lines of counts, put one after another. Assumes nothing.
-use mathlib.Core.Path.{◌≡◌, refl}
+use mathlib.Core.Path.{◌≡◌}
 use mathlib.Core.List.{List, [], ◌∷◌, ◌++◌, append_assoc, append-nil}
-use Prim.Native.Nat.{ℕ, zero, suc, ◌+◌, ◌*◌, ◌≤◌, ◌<◌}
+use Prim.Native.Nat.{ℕ, zero, suc, ◌+◌, ◌*◌, ◌<◌}
 use native.Mathlib.Numerals.{add-one}
 use native.Mathlib.Omega.{arith}
 use lib.ListN.{length, take, get_or}
-use lib.Seq.{take_all}
 use Rattle.text.proofs.Puts.{put_none}
 use Rattle.report.specs.Printed.{count_line, count_lines, PutWithin, count_room}
 use Rattle.report.proofs.Lines.{put_within, within_then}
@@ -20,28 +19,14 @@ counts_more first (c ∷ cs) (suc n) l =
     let next : suc first + n ≡ first + suc n = omega arith in
     rw (counts_more (suc first) cs n (omega arith), next, append_assoc)
 
--- The lines of the first n counts are put at the front of a text.
-pub record Counted (counts old text : List ℕ) (end n : ℕ) : Type 0 where
-  pub within : n ≤ length counts
-  pub same : length text ≡ length old
-  pub lines : PutWithin (count_room * n) (count_lines 0 (take n counts)) 0 old text end
-
-pub none-counted : (counts text : List ℕ) → Counted counts text text 0 0
+pub no_counts : (text : List ℕ) → PutWithin (count_room * 0) (count_lines 0 []) 0 text text 0
 unfolding count_lines
-none-counted counts text = record { within = omega arith; same = refl; lines = put_within (omega arith) (put_none 0 text) }
+no_counts text = put_within (omega arith) (put_none 0 text)
 
--- one more is counted, and at the last all are
-module _ {counts old mid : List ℕ} {end n : ℕ} (counted : Counted counts old mid end n) where
-  pub one_counted : {text : List ℕ} {r : ℕ} → n < length counts → length text ≡ length mid
-      → PutWithin count_room (count_line n (get_or counts n 0)) end mid text r → Counted counts old text r (n + 1)
-  one_counted l same line =
-      let here : 0 + n ≡ n = omega arith in
-      let both = within_then (omega arith) counted.lines line in
-      record {
-        within = omega arith;
-        same = omega arith;
-        lines = record { put = rw (add-one, counts_more 0 counts n l, here) both.put; short = omega arith };
-      }
-
-  pub all_counted : length counts ≤ n → PutWithin (count_room * length counts) (count_lines 0 counts) 0 old mid end
-  all_counted l = record { put = rw (take_all n counts l) at counted.lines.put; short = omega arith }
+pub one_count_more : (counts : List ℕ) {old mid text : List ℕ} {end n r : ℕ} → n < length counts
+    → PutWithin (count_room * n) (count_lines 0 (take n counts)) 0 old mid end → PutWithin count_room (count_line n (get_or counts n 0)) end mid text r
+    → PutWithin (count_room * (n + 1)) (count_lines 0 (take (n + 1) counts)) 0 old text r
+one_count_more counts {n = n} l lines line =
+    let here : 0 + n ≡ n = omega arith in
+    let both = within_then (omega arith) lines line in
+    record { put = rw (add-one, counts_more 0 counts n l, here) both.put; short = omega arith }

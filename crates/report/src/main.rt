@@ -8,9 +8,10 @@ ghost use Rattle.text.specs.Text.{Put};
 ghost use Rattle.report.specs.Printed.{count_line, count_lines, figures_line, goal_line, goal_lines, day_text, text_of, no_tally, Prints};
 ghost use Rattle.report.specs.Printed.{count_room, wide_room, day_room, text_room, PutWithin};
 
-use console::{INPUT, Input, SHEET, WORK};
+use console::{INPUT, SHEET, WORK};
 use day::{Day, Status};
 use map::{Map, number};
+use std::iter;
 use tally::Tally;
 
 // Room for a line of a number and its count, and for one of three numbers of 64 bits: 11 and 21 bytes a number, and 1 more.
@@ -29,19 +30,16 @@ fn put_count(text: &mut [u8], at: usize, number: u32, count: u32) -> usize
     if count == 0 {
         return at;
     }
-    let numbers = [number, count];
-    text::put_line(text, at, &numbers)
+    text::put_line(text, at, [number, count].into_iter().map(u64::from))
 }
 
 fn put_counts(text: &mut [u8], counts: &[u32]) -> usize
     requires { (count_room * length counts.now ≤ length text.old) × (length counts.now ≤ numbers) }
     ensures { PutWithin (count_room * length counts.now) (count_lines 0 counts.now) 0 text.old text.new result }
 {
-    let mut end: usize = 0;
-    let mut n: usize = 0;
-    while n < counts.len() {
-        end = put_count(text, end, n as u32, counts[n]);
-        n += 1;
+    let mut end = 0;
+    for (n, count) in counts.iter().enumerate() {
+        end = put_count(text, end, n as u32, *count);
     }
     end
 }
@@ -50,8 +48,8 @@ fn put_figures(text: &mut [u8], at: usize, day: Day) -> usize
     requires { at + wide_room ≤ length text.old }
     ensures { PutWithin wide_room (figures_line day) at text.old text.new result }
 {
-    let numbers = [day.cost, day.largest as u64, day.expansions as u64];
-    text::put_wide_line(text, at, &numbers)
+    let figures = [day.cost, u64::from(day.largest), u64::from(day.expansions)];
+    text::put_line(text, at, figures.into_iter())
 }
 
 // All that stands before the goals.
@@ -59,16 +57,11 @@ fn put_day(text: &mut [u8], day: Day) -> usize
     requires { day_room ≤ length text.old }
     ensures { PutWithin day_room (day_text day.status day) 0 text.old text.new result }
 {
-    let status = day.status;
-    match status {
+    match day.status {
         Status::TooLong => text::put_bytes(text, 0, b"too long\n"),
-        Status::ShortTally => {
-            let numbers = [number::SHORT_SHEET];
-            text::put_line(text, 0, &numbers)
-        }
+        Status::ShortTally => text::put_line(text, 0, iter::once(u64::from(number::SHORT_SHEET))),
         Status::Reported => {
-            let counts = day.counts;
-            let end = put_counts(text, &counts);
+            let end = put_counts(text, &day.counts);
             put_figures(text, end, day)
         }
     }
@@ -82,8 +75,8 @@ fn put_goal(text: &mut [u8], at: usize, t: Tally) -> usize
     if t.routes == 0 {
         return at;
     }
-    let numbers = [t.goal as u64, t.routes as u64, t.cost];
-    text::put_wide_line(text, at, &numbers)
+    let numbers = [u64::from(t.goal), u64::from(t.routes), t.cost];
+    text::put_line(text, at, numbers.into_iter())
 }
 
 // The goals of a tally that were reached.
@@ -91,12 +84,9 @@ fn put_goals(text: &mut [u8], at: usize, tally: &[Tally]) -> usize
     requires { at + wide_room * length tally.now ≤ length text.old }
     ensures { Put (goal_lines tally.now) at text.old text.new result }
 {
-    let n = tally.len();
     let mut end = at;
-    let mut g = 0;
-    while g < n {
-        end = put_goal(text, end, tally[g]);
-        g = g + 1;
+    for t in tally {
+        end = put_goal(text, end, *t);
     }
     end
 }
@@ -140,9 +130,8 @@ fn reply(rt: &HostRuntime, input: &[u8]) {
 
 fn main(rt: HostRuntime) {
     let mut input = [0u8; INPUT + 1];
-    let read = console::read_all(&mut rt.stdin(), &mut input);
-    match read {
-        Input::Bytes(bytes) => reply(&rt, &input[..bytes]),
-        Input::Failed => console::complain(&rt.stderr(), b"report: cannot read standard input\n"),
+    match console::read_all(&mut rt.stdin(), &mut input) {
+        Ok(bytes) => reply(&rt, &input[..bytes]),
+        Err(_) => console::complain(&rt.stderr(), b"report: cannot read standard input\n"),
     }
 }

@@ -8,7 +8,7 @@ ghost use Rattle.text.specs.Text.{line, Put};
 ghost use Rattle.route.specs.Printed.{places_on, text_of, answered, Prints, LineOne};
 
 use answer::Answer;
-use console::{INPUT, Input, SHEET, WORK};
+use console::{INPUT, SHEET, WORK};
 use map::Map;
 
 // Room for both lines, of 6 numbers and of at most as many as a map has places: 11 bytes a number and 1 more.
@@ -27,20 +27,7 @@ fn put_answer(text: &mut [u8], answer: Answer) -> usize
         answer.expansions,
         answer.queries,
     ];
-    text::put_line(text, 0, &numbers)
-}
-
-// The same numbers, with 32 bits each.
-fn wide(places: [u16; Map::PLACES]) -> [u32; Map::PLACES]
-    ensures { result ≡ places }
-{
-    let mut numbers = [0u32; Map::PLACES];
-    let mut i = 0;
-    while i < Map::PLACES {
-        numbers[i] = area::wide16(places[i]);
-        i += 1;
-    }
-    numbers
+    text::put_line(text, 0, numbers.into_iter().map(u64::from))
 }
 
 // Line two: the places that the sheet says.
@@ -49,10 +36,8 @@ fn put_places(text: &mut [u8], at: usize, sheet: &[u8]) -> usize
     ensures { Put (line (places_on sheet.now)) at text.old text.new result }
 {
     let reading = sheet_reader::read(sheet);
-    let list = reading.places;
-    let places = wide(list);
-    let count = area::index32(reading.count);
-    text::put_line(text, at, &places[..count])
+    let places = reading.places.iter().take(reading.count as usize);
+    text::put_line(text, at, places.map(|p| u64::from(*p)))
 }
 
 // Both lines of an input's answer, or the one that it has.
@@ -67,7 +52,7 @@ fn put_route(text: &mut [u8], input: &[u8]) -> usize
     if answer.number != 0 {
         return end;
     }
-    let bytes = area::index32(answer.sheet_bytes);
+    let bytes = answer.sheet_bytes as usize;
     put_places(text, end, &sheet[..bytes])
 }
 
@@ -95,9 +80,8 @@ fn reply(rt: &HostRuntime, input: &[u8]) {
 
 fn main(rt: HostRuntime) {
     let mut input = [0u8; INPUT + 1];
-    let read = console::read_all(&mut rt.stdin(), &mut input);
-    match read {
-        Input::Bytes(bytes) => reply(&rt, &input[..bytes]),
-        Input::Failed => console::complain(&rt.stderr(), b"route: cannot read standard input\n"),
+    match console::read_all(&mut rt.stdin(), &mut input) {
+        Ok(bytes) => reply(&rt, &input[..bytes]),
+        Err(_) => console::complain(&rt.stderr(), b"route: cannot read standard input\n"),
     }
 }

@@ -40,6 +40,20 @@ pub decimal_digits : (n k : ℕ) → IsDigitCount 10 1 n k → decimal n ≡ las
 unfolding decimal
 decimal_digits n k few = as_digits n n k (omega arith) few
 
+some_digits : (most n : ℕ) → 0 < length (decimal_up_to most n)
+unfolding decimal_up_to
+some_digits zero n = omega arith
+some_digits (suc most) n = go (ltb n 10)
+  where
+    go : (small : Bool) → 0 < length (cond small ((48 + n) ∷ []) (decimal_up_to most (n / 10) ++ ((48 + n % 10) ∷ [])))
+    go true = omega arith
+    go false = rw length-append (omega arith)
+
+-- a number has a digit
+pub decimal_some : (n : ℕ) → 0 < length (decimal n)
+unfolding decimal
+decimal_some n = some_digits n n
+
 digits_at_most : (most k n : ℕ) → n < 10 ^ suc k → length (decimal_up_to most n) ≤ suc k
 unfolding decimal_up_to
 digits_at_most zero k n h = omega arith

@@ -1,7 +1,9 @@
 // Lines of numbers as bytes, put one after another into a lent text.
 #![tactic(auto)]
 
-ghost use Rattle.std.specs.Prelude.{◌+◌, ◌*◌, ◌<◌, ◌≤◌, [], ◌∷◌, length};
+ghost use Rattle.std.specs.Prelude.{◌+◌, ◌-◌, ◌<◌, ◌≤◌, [], ◌∷◌, length};
+ghost use Rattle.std.specs.Iterator.{IsFinite};
+ghost use Rattle.std.specs.Iterator.Runs.{EachRunFrom, WholeRun};
 ghost use Rattle.text.specs.Text.{decimal, in_line, line, Put};
 
 const BLANK: u8 = b' ';
@@ -21,12 +23,8 @@ pub fn put_bytes(text: &mut [u8], at: usize, bytes: &[u8]) -> usize
     requires { at + length bytes.now ≤ length text.old }
     ensures { Put bytes.now at text.old text.new result }
 {
-    let mut end = at;
-    let mut i = 0;
-    while i < bytes.len() {
-        end = put_byte(text, end, bytes[i]);
-        i += 1;
-    }
+    let end = at + bytes.len();
+    text[at..end].copy_from_slice(bytes);
     end
 }
 
@@ -40,42 +38,28 @@ fn put_number(text: &mut [u8], at: usize, x: u64) -> usize
     put_bytes(text, at, &digits[..count])
 }
 
-// Number i of a line: its digits and 1 byte more have room for it.
-fn put_in_line(text: &mut [u8], at: usize, i: usize, x: u64) -> usize
-    requires { at + length (decimal x) + 1 ≤ length text.old }
-    ensures { Put (in_line i x) at text.old text.new result }
+// One number more of the line that begins at `from`: a blank parts it from the one before.
+fn put_in_line(text: &mut [u8], from: usize, at: usize, x: u64) -> usize
+    requires { at + length (in_line (at - from) x) ≤ length text.old }
+    ensures { Put (in_line (at - from) x) at text.old text.new result }
 {
-    if i == 0 {
+    if at <= from {
         return put_number(text, at, x);
     }
     let next = put_byte(text, at, BLANK);
     put_number(text, next, x)
 }
 
-// A line of numbers: 11 bytes a number and 1 more have room for it.
-pub fn put_line(text: &mut [u8], at: usize, numbers: &[u32]) -> usize
-    requires { at + 11 * length numbers.now + 1 ≤ length text.old }
-    ensures { Put (line numbers.now) at text.old text.new result }
+// A line of numbers, for which there is room.
+pub fn put_line<I: Iterator<Item = u64> + Drop>(text: &mut [u8], at: usize, numbers: I) -> usize
+    requires can { I.can_next numbers }
+    requires ends { IsFinite (I.remaining numbers) }
+    requires room { EachRunFrom I.next_gives numbers (λ p. at + length (line p.items) ≤ length text.old) }
+    ensures { WholeRun I.next_gives numbers (λ p. Put (line p.items) at text.old text.new result) }
 {
     let mut end = at;
-    let mut i = 0;
-    while i < numbers.len() {
-        end = put_in_line(text, end, i, numbers[i] as u64);
-        i += 1;
-    }
-    put_byte(text, end, LINE_FEED)
-}
-
-// A line of numbers of 64 bits: 21 bytes a number and 1 more have room for it.
-pub fn put_wide_line(text: &mut [u8], at: usize, numbers: &[u64]) -> usize
-    requires { at + 21 * length numbers.now + 1 ≤ length text.old }
-    ensures { Put (line numbers.now) at text.old text.new result }
-{
-    let mut end = at;
-    let mut i = 0;
-    while i < numbers.len() {
-        end = put_in_line(text, end, i, numbers[i]);
-        i += 1;
+    for x in numbers {
+        end = put_in_line(text, at, end, x);
     }
     put_byte(text, end, LINE_FEED)
 }

@@ -14,8 +14,7 @@ use Rattle.map_writer.specs.Canonical.{write}
 use Rattle.map_writer.specs.Call.{written_with, write_if, write_map, Wrote}
 use Rattle.text.specs.Text.{line, too_long, Put}
 use Rattle.text.proofs.Puts.{front_within, put_front}
-use Rattle.write_map.specs.declared.Lengths.{Lengths}
-use Rattle.write_map.specs.Printed.{streams, streams_of, answered, printed, Holds}
+use Rattle.write_map.specs.Printed.{streams, streams_of, answered, printed}
 
 -- ---- What a result gives the streams
 
@@ -63,32 +62,19 @@ module _ {input before work out : List ℕ} {a : Answer} (size : length before �
   given : streams_of result ≡ streams_of (answered input)
   given = ap streams_of wrote.result ∙ any_area input before size
 
-  pub holds_map : {err : List ℕ} {r : ℕ} → a.number ≡ 0 → r ≡ a.sheet_bytes
-      → Holds (streams_of (answered input)) out err (record { out = r; err = 0 })
-  holds_map h e =
-      record {
-        out_within = rw e (rw (← wrote.result) at (map-within input (replicate 16384 0) before));
-        err_within = omega arith;
-        bytes = rw e (sym (map-alone result h) ∙ given);
-      }
+  pub map_front : a.number ≡ 0 → (a.sheet_bytes ≤ length out) × (streams (take a.sheet_bytes out) [] ≡ streams_of (answered input))
+  map_front h = (rw (← wrote.result) at (map-within input (replicate 16384 0) before), sym (map-alone result h) ∙ given)
 
-  pub holds_number : {old err : List ℕ} {r : ℕ} → (a.number ≡ 0 → ⊥) → Put (line (a.number ∷ [])) 0 old err r
-      → Holds (streams_of (answered input)) out err (record { out = 0; err = r })
-  holds_number h p =
-      record {
-        out_within = omega arith;
-        err_within = front_within p;
-        bytes = rw (put_front p) (sym (number_alone result h) ∙ given);
-      }
+  pub number_front : {old err : List ℕ} {r : ℕ} → (a.number ≡ 0 → ⊥) → Put (line (a.number ∷ [])) 0 old err r
+      → (r ≤ length err) × (streams [] (take r err) ≡ streams_of (answered input))
+  number_front h p = (front_within p, rw (put_front p) (sym (number_alone result h) ∙ given))
 
 -- for an input that is longer, and for any other
-pub holds_too_long : (input : List ℕ) {old out err : List ℕ} {r : ℕ} → 65536 < length input → Put too_long 0 old err r
-    → Holds (printed input) out err (record { out = 0; err = r })
+pub too_long_front : (input : List ℕ) {old err : List ℕ} {r : ℕ} → 65536 < length input → Put too_long 0 old err r
+    → (r ≤ length err) × (streams [] (take r err) ≡ printed input)
 unfolding printed
-holds_too_long input h p =
-    record { out_within = omega arith; err_within = front_within p; bytes = rw (lt-ltb 65536 (length input) h, put_front p) }
+too_long_front input h p = (front_within p, rw (lt-ltb 65536 (length input) h) (ap (streams []) (put_front p)))
 
-pub holds_written : (input : List ℕ) {out err : List ℕ} {r : Lengths} → length input ≤ 65536 → Holds (streams_of (answered input)) out err r
-    → Holds (printed input) out err r
+pub printed_answered : (input : List ℕ) → length input ≤ 65536 → printed input ≡ streams_of (answered input)
 unfolding printed
-holds_written input h w = rw (le-ltb 65536 (length input) h) w
+printed_answered input h = rw (le-ltb 65536 (length input) h)

@@ -1,10 +1,9 @@
 -- What program `write_map` prints, and on which stream.
-use Rattle.std.specs.Prelude.{◌≡◌, cond, List, [], ◌∷◌, ℕ, ◌≤◌, ltb, eqb, length, take, replicate}
+use Rattle.std.specs.Prelude.{◌≡◌, cond, List, [], ◌∷◌, ℕ, ◌≤◌, ltb, eqb, length, take, replicate, Result as Counted, Ok, Err}
 use Rattle.model.specs.Answer.{Result}
 use Rattle.model.specs.Calls.{written}
 use Rattle.map_writer.specs.Call.{write_map}
 use Rattle.text.specs.Text.{line, too_long}
-use Rattle.write_map.specs.declared.Lengths.{Lengths}
 
 -- the bytes on standard output and on standard error
 pub record Streams : Type 0 where
@@ -26,8 +25,7 @@ answered input = write_map input (replicate 16384 0) (replicate 65536 0)
 unfoldable pub printed : List ℕ → Streams
 printed input = cond (ltb 65536 (length input)) (streams [] too_long) (streams_of (answered input))
 
--- Each text begins with what its stream is to have, which is as many bytes as are counted.
-pub record Holds (s : Streams) (out err : List ℕ) (r : Lengths) : Type 0 where
-  pub out_within : r.out ≤ length out
-  pub err_within : r.err ≤ length err
-  pub bytes : streams (take r.out out) (take r.err err) ≡ s
+-- One text begins with all that is to stand anywhere: `Ok` counts its bytes on standard output, and `Err` those on standard error.
+abbrev pub Holds : Streams → (out err : List ℕ) → Counted ℕ ℕ → Type 0
+Holds s out err (Ok n) = (n ≤ length out) × (streams (take n out) [] ≡ s)
+Holds s out err (Err n) = (n ≤ length err) × (streams [] (take n err) ≡ s)

@@ -1,10 +1,8 @@
-use native.Mathlib.Omega.{arith}
-use Rattle.report.proofs.Counts.{none-counted, one_counted}
+use Rattle.report.proofs.Counts.{no_counts, one_count_more}
 use Rattle.report.proofs.put_counts.Goals as goal
 
 pub loop-n-init : goal.loop-n-init
-loop-n-init c = none-counted _ _
+loop-n-init c = no_counts _
 
 pub loop-n-preserved : goal.loop-n-preserved
-loop-n-preserved c =
-    one_counted c.loop-n.invariant (omega arith) (omega arith) c.put_count-end.ensures
+loop-n-preserved c = one_count_more c.args.counts.now c.loop-n-test.true c.loop-n.invariant c.put_count-end.ensures

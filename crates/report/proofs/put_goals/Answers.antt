@@ -1,11 +1,11 @@
-use mathlib.Core.Path.{◌≡◌}
 use native.Mathlib.Omega.{arith}
-use lib.ListN.{length}
-use Rattle.report.proofs.Goals.{all_goals}
+use Rattle.report.specs.Printed.{no_tally}
+use Rattle.report.proofs.Goals.{no_goals, one_goal_more}
 use Rattle.report.proofs.put_goals.Goals as goal
 
-pub returns : goal.returns
-returns c =
-    let put = c.loop-g.invariant in
-    let last : c.loop-g.g ≡ length c.args.tally.now = omega arith in
-    rw (put.3, put.4, last) (all_goals c.args.at c.args.text.now c.args.tally.now c.requires)
+pub loop-t-init : goal.loop-t-init
+loop-t-init c = no_goals _ _
+
+pub loop-t-preserved : goal.loop-t-preserved
+loop-t-preserved c =
+    one_goal_more c.args.tally.now no_tally (omega arith) c.loop-t-test.true c.loop-t.invariant c.put_goal-end.ensures

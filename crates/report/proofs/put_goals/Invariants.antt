@@ -1,12 +1,7 @@
--- After g turns the text is text_after g of what it was, and the lines end at end_after g.
-use Rattle.std.proofs.Common.{◌≡◌, ◌-◌, ◌≤◌, length}
-use Rattle.report.proofs.Goals.{Reached, end_after, text_after}
+-- The loop's invariant: the lines of the goals so far are put, each within its room. Assumes nothing.
+use Rattle.std.proofs.Common.{◌*◌, take}
+use Rattle.report.specs.Printed.{goal_lines, PutWithin, wide_room}
 use Rattle.report.proofs.put_goals.Given as goal
 
-abbrev pub invariant-loop-g : goal.invariant-loop-g
-invariant-loop-g l =
-    (l.n ≡ length l.tally) × (l.g ≤ l.n) × Reached l.at l.initial.text l.tally l.g
-    × (l.end ≡ end_after l.at l.initial.text l.tally l.g) × (l.text ≡ text_after l.at l.initial.text l.tally l.g)
-
-abbrev pub decreases-loop-g : goal.decreases-loop-g
-decreases-loop-g l = l.n - l.g
+abbrev pub invariant-loop-t : goal.invariant-loop-t
+invariant-loop-t l = PutWithin (wide_room * l.t-index) (goal_lines (take l.t-index l.tally)) l.at l.initial.text l.text l.end

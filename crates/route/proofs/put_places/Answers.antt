@@ -1,31 +1,42 @@
 -- No loop: the places that are read are put, as many as are counted. Assumes nothing.
-use mathlib.Core.Path.{◌≡◌, sym, ap}
-use Prim.Native.Nat.{◌≤◌}
+use mathlib.Core.Path.{◌≡◌, ap}
 use native.Mathlib.Omega.{arith}
-use lib.ListN.{take}
-use lib.Seq.{length-take-le}
+use lib.ListN.{length, take}
 use borrow.Author.Rules.{rules}
-use Rattle.model.specs.Limits.{max_places}
+use Rattle.std.proofs.Common.{tests}
+use Rattle.std.proofs.iter.Yields.{fronts}
+use Rattle.std.specs.Iterator.Adapters.{take_steps}
+use Rattle.std.proofs.lemmas.Iterator.{YieldsList, YieldsList-from_slice, YieldsList-from_take}
+use Rattle.std.proofs.lemmas.Iterator.Consumers.{YieldsList-at}
+use Rattle.std.proofs.lemmas.List.{length-take}
+use Rattle.text.proofs.Lines.{line-length, room_for_runs, line_given, widened}
 use Rattle.route.specs.Printed.{places_on}
-use Rattle.route.proofs.Sheets.{few_read}
-use Rattle.route.proofs.put_places.Goals.{After-index32-count}
+use Rattle.route.proofs.Sheets.{places_small}
+use Rattle.route.proofs.put_places.Goals.{After-take-places}
 use Rattle.route.proofs.put_places.Goals as goal
 
--- how many places the sheet says, and which
-counted : (c : After-index32-count) → c.index32-count.result ≤ max_places
-counted c =
-    let few = few_read c.args.sheet.now (λ i. omega (arith, c.shared_slice_known-1.given i)) in
-    omega (arith, ap (λ d. d.count) c.read-reading.ensures)
+-- the places that the sheet says
+listed : (c : After-take-places) → take c.read-reading.result.count c.read-reading.result.places ≡ places_on c.args.sheet.now
+unfolding places_on
+listed c = ap (λ d. take d.count d.places) c.read-reading.ensures
 
-pub slice_bounds-places-end : goal.slice_bounds-places-end
-slice_bounds-places-end c = let few = (counted (goal.at.slice_bounds-places-end c).After-index32-count) in search rules
+taken : (c : After-take-places) → YieldsList (take_steps fronts) (λ y. y.now) c.take-places.result (places_on c.args.sheet.now)
+taken c =
+    let read = c.read-reading.result in
+    rw (listed c) at
+    (YieldsList-from_take read.count (YieldsList-at c.take-places.ensures.source (YieldsList-from_slice read.places c.iter.ensures.rest)) c.take-places.ensures.count)
 
-pub slice_bounds-put_line-end : goal.slice_bounds-put_line-end
-slice_bounds-put_line-end c = let few = (counted (goal.at.slice_bounds-put_line-end c).After-index32-count) in sym (length-take-le _ _ (search rules))
+pub put_line-requires-clause-room : goal.put_line-requires-clause-room
+put_line-requires-clause-room c =
+    let at = goal.at.put_line-requires-clause-room c in
+    let read = c.read-reading.result in
+    let short = line-length (places_on c.args.sheet.now) (places_small c.args.sheet.now (λ i. omega (arith, c.type_inv.sheet i))) in
+    let few : length read.places ≡ 4096 = search rules in
+    let gives = YieldsList-at c.map.ensures.source (taken at.After-take-places) in
+    room_for_runs (widened _ gives c.map.ensures.closure (λ x r q k. search (rules, tests))) _ _
+    (omega (arith, length-take read.count read.places, ap length (listed at.After-take-places)))
 
 pub returns : goal.returns
-unfolding places_on
 returns c =
-    let listed : take c.index32-count.result c.wide-places.result ≡ places_on c.args.sheet.now =
-    rw (c.index32-count.ensures, c.wide-places.ensures) (ap (λ d. take d.count d.places) c.read-reading.ensures) in
-    rw listed at c.put_line.ensures
+    let gives = YieldsList-at c.map.ensures.source (taken (goal.at.returns c).After-take-places) in
+    line_given (widened _ gives c.map.ensures.closure (λ x r q k. search (rules, tests))) c.put_line.ensures

@@ -10,7 +10,7 @@ use Rattle.text.proofs.Puts.{put_then}
 use Rattle.route.specs.Printed.{answered}
 use Rattle.route.proofs.Sheets.{sheet_within}
 use Rattle.route.proofs.Printing.{one_line, two_lines}
-use Rattle.route.proofs.put_route.Goals.{After-index32-bytes, After-route-answer}
+use Rattle.route.proofs.put_route.Goals.{After-put_answer-end, After-route-answer}
 use Rattle.route.proofs.put_route.Goals as goal
 
 -- the call's result, which is the definition's
@@ -22,7 +22,7 @@ unfolding answered
 called c = c.route-answer.ensures.result
 
 -- its sheet is within the area
-within : (c : After-index32-bytes) → c.index32-bytes.result ≤ length c.route-answer.new.sheet
+within : (c : After-put_answer-end) → c.route-answer.result.sheet_bytes ≤ length c.route-answer.new.sheet
 unfolding answered
 within c =
     let sheet = rw (← c.route-answer.ensures.result) at (sheet_within c.args.input.now) in
@@ -34,14 +34,13 @@ returns-then-answer-ne0 c =
     rw (← (called call), one_line (result call) c.if-answer-ne0.true) c.put_answer-end.ensures.put
 
 pub slice_bounds-sheet-end : goal.slice_bounds-sheet-end
-slice_bounds-sheet-end c = within (goal.at.slice_bounds-sheet-end c).After-index32-bytes
+slice_bounds-sheet-end c = within (goal.at.slice_bounds-sheet-end c).After-put_answer-end
 
 pub slice_bounds-put_places-end : goal.slice_bounds-put_places-end
-slice_bounds-put_places-end c = sym (length-take-le _ _ (within (goal.at.slice_bounds-put_places-end c).After-index32-bytes))
+slice_bounds-put_places-end c = sym (length-take-le _ _ (within (goal.at.slice_bounds-put_places-end c).After-put_answer-end))
 
 pub returns : goal.returns
 returns c =
     let call = (goal.at.returns c).After-route-answer in
     let one = c.put_answer-end.ensures.put in
-    let two = rw c.index32-bytes.ensures at c.put_places.ensures in
-    rw (← (called call), two_lines (result call) c.if-answer-ne0.false) (put_then (omega arith) one two)
+    rw (← (called call), two_lines (result call) c.if-answer-ne0.false) (put_then (omega arith) one c.put_places.ensures)

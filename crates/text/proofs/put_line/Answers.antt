@@ -1,20 +1,33 @@
 use native.Mathlib.Omega.{arith}
-use Rattle.text.proofs.Decimals.{short_32}
-use Rattle.text.proofs.Lines.{none-begun, begun_more, line_ended}
+use Rattle.std.proofs.Common.{rules}
+use Rattle.text.specs.Text.{parted}
+use Rattle.text.proofs.Puts.{put_none}
+use Rattle.text.proofs.Lines.{room_for_one, one_put, room_for_end, line_put}
 use Rattle.text.proofs.put_line.Goals as goal
 
-pub loop-i-init : goal.loop-i-init
-loop-i-init c = none-begun
+pub loop-x-init : goal.loop-x-init
+unfolding parted
+loop-x-init g c = (search rules, search rules, put_none c.args.at c.args.text.now)
 
 pub put_in_line-end-requires : goal.put_in_line-end-requires
-put_in_line-end-requires c =
-    omega (arith, short_32 _ (c.shared_slice_known-in-loop-i-1.given c.loop-i.i).fits)
+put_in_line-end-requires g c =
+    let l = c.loop-x in
+    let fits = room_for_one g.I.Iterator.next_gives c.into_iter-x-iterator.ensures.into_iter_gives l.yielded l.x-iterator l.yielded_by c.requires.room l.invariant.2 c.in-Some.x _ c.in-Some.ensures.steps in
+    omega arith
 
-pub loop-i-preserved : goal.loop-i-preserved
-loop-i-preserved c =
-    let l = c.loop-i in
-    let short = short_32 _ (c.shared_slice_known-in-loop-i-1.given l.i).fits in
-    begun_more l.invariant (omega arith) (omega arith) short (omega arith) c.put_in_line-end.ensures
+pub loop-x-preserved : goal.loop-x-preserved
+loop-x-preserved g c =
+    let l = c.loop-x in
+    let more = one_put g.I.Iterator.next_gives c.into_iter-x-iterator.ensures.into_iter_gives l.yielded l.x-iterator l.yielded_by c.requires.room l.invariant.2 c.in-Some.x _ c.in-Some.ensures.steps c.put_in_line-end.ensures in
+    (search rules, search rules, more)
+
+pub put_byte-requires : goal.put_byte-requires
+put_byte-requires g c =
+    let l = c.loop-x in
+    let fits = room_for_end g.I.Iterator.next_gives c.into_iter-x-iterator.ensures.into_iter_gives l.yielded l.x-iterator l.yielded_by c.requires.room l.invariant.2 _ c.in-None.ensures.steps in
+    omega arith
 
 pub returns : goal.returns
-returns c = line_ended c.loop-i.invariant (omega arith) (omega arith) c.put_byte.ensures
+returns g c =
+    let l = c.loop-x in
+    line_put g.I.Iterator.next_gives c.into_iter-x-iterator.ensures.into_iter_gives l.yielded l.x-iterator l.yielded_by c.requires.room l.invariant.2 _ c.in-None.ensures.steps c.put_byte.ensures

@@ -1,10 +1,10 @@
 -- No loop: an input that is too long, or what the call gives. Assumes nothing.
 use borrow.Author.Rules.{rules}
-use Rattle.write_map.proofs.Printing.{holds_too_long, holds_written}
+use Rattle.write_map.proofs.Printing.{too_long_front, printed_answered}
 use Rattle.write_map.proofs.texts_of.Goals as goal
 
 pub returns-then-input-gt-INPUT : goal.returns-then-input-gt-INPUT
-returns-then-input-gt-INPUT c = holds_too_long _ (search rules) c.put_bytes-bytes.ensures
+returns-then-input-gt-INPUT c = too_long_front _ (search rules) c.put_bytes.ensures
 
 pub returns : goal.returns
-returns c = holds_written _ (search rules) c.put_written.ensures
+returns c = rw (printed_answered c.args.input.now (search rules)) c.put_written.ensures

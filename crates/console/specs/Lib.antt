@@ -1,2 +1,0 @@
--- What reading to the end promises.
-pub mod Reading
