@@ -4,6 +4,7 @@ ghost use Rattle.day.specs.Host.{status_number, figures_of, Told};
 
 use jobs::{Day, Status};
 use map::number;
+use map::refusal::Refusal;
 
 // No answer has this number.
 const TOO_LONG: u32 = 255;
@@ -19,7 +20,7 @@ fn status_number(status: Status) -> u32
 {
     match status {
         Status::TooLong => TOO_LONG,
-        Status::ShortTally => number::SHORT_SHEET,
+        Status::ShortTally => Refusal::ShortSheet.number(),
         Status::Reported => number::FOUND,
     }
 }

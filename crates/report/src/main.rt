@@ -10,6 +10,7 @@ ghost use Rattle.report.specs.Printed.{count_room, wide_room, day_room, text_roo
 
 use console::{INPUT, SHEET, WORK};
 use day::{Day, Status};
+use map::refusal::Refusal;
 use map::{Map, number};
 use std::iter;
 use tally::Tally;
@@ -59,7 +60,7 @@ fn put_day(text: &mut [u8], day: Day) -> usize
 {
     match day.status {
         Status::TooLong => text::put_bytes(text, 0, b"too long\n"),
-        Status::ShortTally => text::put_line(text, 0, iter::once(u64::from(number::SHORT_SHEET))),
+        Status::ShortTally => text::put_line(text, 0, iter::once(u64::from(Refusal::ShortSheet.number()))),
         Status::Reported => {
             let end = put_counts(text, &day.counts);
             put_figures(text, end, day)
