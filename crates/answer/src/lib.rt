@@ -6,7 +6,7 @@ ghost use Rattle.model.specs.Answer.{answer, over_front};
 ghost use Rattle.answer.specs.Numbers.{answer_of, seven, put_over};
 
 // Document 01's seven numbers.
-#[derive(Clone, Copy)]
+#[derive(Clone, Copy, PartialEq)]
 pub struct Answer {
     pub number: u32,
     pub cost: u32,

@@ -2,10 +2,10 @@
 // tests/cases.py makes the stored file, and says what it holds.
 #![tactic(auto)]
 
-ghost use Rattle.std.specs.Prelude.{◌≡◌, ◌≤◌, true, length};
+ghost use Rattle.std.specs.Prelude.{◌≤◌, length};
 
 use answer::Answer;
-use area::{index32, u32_at};
+use area::u32_at;
 use std::io;
 use std::io::Read;
 
@@ -18,10 +18,21 @@ const SHEET: usize = 8300;
 
 const CASES: u64 = 10000;
 
-// The bytes of a case's numbers, and how many groups there are.
+// The bytes of a case's numbers.
 const FRONT: usize = 48;
 
 const GROUPS: usize = 8;
+
+const NAMES: [&str; GROUPS] = [
+    "document 01",
+    "refusals",
+    "ends of ranges",
+    "consistent estimates",
+    "admissible estimates with gaps",
+    "overstating estimates",
+    "damaged inputs",
+    "fewest places",
+];
 
 // A case's numbers: bytes of its input, words and bytes lent, the answer, and the work words that are 0 after the call.
 #[derive(Clone, Copy)]
@@ -46,23 +57,34 @@ impl Case {
             sheet_bytes: u32_at(front, 40),
         };
         Case {
-            group: index32(u32_at(front, 0)),
-            input: index32(u32_at(front, 4)),
-            words: index32(u32_at(front, 8)),
-            bytes: index32(u32_at(front, 12)),
+            group: u32_at(front, 0) as usize,
+            input: u32_at(front, 4) as usize,
+            words: u32_at(front, 8) as usize,
+            bytes: u32_at(front, 12) as usize,
             answer,
-            zeros: index32(u32_at(front, 44)),
+            zeros: u32_at(front, 44) as usize,
         }
     }
 }
 
-// What became of the next case, with its group.
+// A case that was run: its group, the answer's number as given and as expected, and whether all was right.
+#[derive(Clone, Copy)]
+struct Verdict {
+    group: usize,
+    given: u32,
+    expected: u32,
+    right: bool,
+}
+
+// A case that is cut short or too large.
 #[derive(Drop)]
-enum Outcome {
-    Right(usize),
-    Wrong(usize),
-    Unreadable,
-    End,
+struct Unreadable;
+
+// How many cases of a group were right, and how many wrong.
+#[derive(Clone, Copy)]
+struct Tally {
+    right: u64,
+    wrong: u64,
 }
 
 fn print_unreadable(rt: &HostRuntime, nth: u64) -> io::Result<()> {
@@ -73,33 +95,22 @@ fn print_wrong(rt: &HostRuntime, nth: u64, given: u32, expected: u32) -> io::Res
     println!(rt; "case {nth}: number {given}, expected {expected}")
 }
 
-fn name(group: usize) -> &'static str {
-    match group {
-        0 => "document 01",
-        1 => "refusals",
-        2 => "ends of ranges",
-        3 => "consistent estimates",
-        4 => "admissible estimates with gaps",
-        5 => "overstating estimates",
-        6 => "damaged inputs",
-        _ => "fewest places",
-    }
-}
-
-fn print_group(rt: &HostRuntime, group: usize, right: u64, wrong: u64) -> io::Result<()> {
-    let name = name(group);
+fn print_group(rt: &HostRuntime, name: &str, tally: Tally) -> io::Result<()> {
+    let right = tally.right;
+    let wrong = tally.wrong;
     println!(rt; "{name}: {right} right, {wrong} wrong")
 }
 
 // A line for each group.
-fn print_groups(rt: &HostRuntime, right: &[u64; GROUPS], wrong: &[u64; GROUPS]) -> io::Result<()> {
-    for group in 0..GROUPS {
-        print_group(rt, group, right[group], wrong[group])?;
+fn print_groups(rt: &HostRuntime, tallies: &[Tally; GROUPS]) -> io::Result<()> {
+    for (name, tally) in NAMES.iter().zip(tallies) {
+        print_group(rt, name, *tally)?;
     }
     Ok(())
 }
 
-// Reads until room is full, the input ends or a read fails: how many bytes stand at its front then.
+// Reads until room is full, the input ends or a read fails: how many bytes stand at its front then. `console::read_all` does not tell that of a
+// read that fails, which here ends the file.
 fn read_full(from: &mut io::Stdin, room: &mut [u8]) -> usize
     ensures { result ≤ length room.new }
 {
@@ -116,167 +127,127 @@ fn read_full(from: &mut io::Stdin, room: &mut [u8]) -> usize
     done
 }
 
-// Reads so many bytes to the front of `room`: false where it has fewer, or what is left of the file.
-fn read(from: &mut io::Stdin, room: &mut [u8], bytes: usize) -> bool {
-    if bytes > room.len() {
-        return false;
+// Reads so many bytes to the front of `room`, where it has as many, and so has what is left of the file.
+fn read<'a>(
+    from: &mut io::Stdin,
+    room: &'a mut [u8],
+    bytes: usize,
+) -> Result<&'a [u8], Unreadable> {
+    let front = room.get_mut(..bytes).ok_or(Unreadable)?;
+    if read_full(from, front) < bytes {
+        return Err(Unreadable);
     }
-    let got = read_full(from, &mut room[0..bytes]);
-    got == bytes
+    Ok(front)
 }
 
 // The first `zeros` words become 0; each other gets a mark by its index, which is never 0.
 fn mark_words(area: &mut [u32], zeros: usize) {
-    let mut i = 0;
-    while i < area.len() {
-        area[i] = if i < zeros { 0 } else { (i % 65521) as u32 + 1 };
-        i += 1;
+    for (i, word) in area.iter_mut().enumerate() {
+        *word = if i < zeros { 0 } else { (i % 65521) as u32 + 1 };
     }
 }
 
 // Each byte gets a mark by its index.
 fn mark_bytes(area: &mut [u8]) {
-    let mut i = 0;
-    while i < area.len() {
-        area[i] = (i % 251) as u8 + 1;
-        i += 1;
+    for (i, byte) in area.iter_mut().enumerate() {
+        *byte = (i % 251) as u8 + 1;
     }
-}
-
-// Whether a and b hold the same words.
-fn same_words(a: &[u32], b: &[u32]) -> bool
-    ensures { (result ≡ true → a.now ≡ b.now) × (a.now ≡ b.now → result ≡ true) }
-{
-    if a.len() != b.len() {
-        return false;
-    }
-    let mut i = 0;
-    while i < a.len() {
-        if a[i] != b[i] {
-            return false;
-        }
-        i += 1;
-    }
-    true
 }
 
 // Puts down what the areas should hold after the call; the sheet comes next in the file.
-fn put_expected(from: &mut io::Stdin, case: Case, work: &mut [u32], sheet: &mut [u8]) -> bool {
-    let answer = case.answer;
+fn put_expected(
+    from: &mut io::Stdin,
+    case: Case,
+    work: &mut [u32],
+    sheet: &mut [u8],
+) -> Result<(), Unreadable> {
     mark_words(work, case.zeros);
     mark_bytes(sheet);
-    read(from, sheet, index32(answer.sheet_bytes))
+    read(from, sheet, case.answer.sheet_bytes as usize)?;
+    Ok(())
 }
 
 // Calls with as much of the marked areas as the case lends.
 fn call(case: Case, input: &[u8], work: &mut [u32], sheet: &mut [u8]) -> Answer
     requires { (case.words ≤ length work.old) × (case.bytes ≤ length sheet.old) }
 {
-    let words = case.words;
-    let bytes = case.bytes;
     mark_words(work, 0);
     mark_bytes(sheet);
-    router::route(input, &mut work[0..words], &mut sheet[0..bytes])
+    router::route(input, &mut work[..case.words], &mut sheet[..case.bytes])
 }
 
-fn same_answer(a: Answer, b: Answer) -> bool {
-    (a.number == b.number)
-        & (a.cost == b.cost)
-        & (a.limit == b.limit)
-        & (a.floor == b.floor)
-        & (a.expansions == b.expansions)
-        & (a.queries == b.queries)
-        & (a.sheet_bytes == b.sheet_bytes)
-}
-
-// The areas are compared whole, also beyond what is lent.
-fn same_areas(
-    work: &[u32; WORK],
-    sheet: &[u8; SHEET],
-    expected_work: &[u32; WORK],
-    expected_sheet: &[u8; SHEET],
-) -> bool {
-    same_words(work, expected_work) && *sheet == *expected_sheet
-}
-
-// Runs the nth case, whose input is read.
-fn run(rt: &HostRuntime, nth: u64, case: Case, input: &[u8]) -> io::Result<Outcome> {
+// Runs a case, whose input is read. The areas are compared whole, also beyond what is lent.
+fn run(rt: &HostRuntime, case: Case, input: &[u8]) -> Result<Verdict, Unreadable> {
+    if case.words > WORK || case.bytes > SHEET {
+        return Err(Unreadable);
+    }
     let mut expected_work = [0u32; WORK];
     let mut expected_sheet = [0u8; SHEET];
-    if case.words > WORK
-        || case.bytes > SHEET
-        || !put_expected(
-            &mut rt.stdin(),
-            case,
-            &mut expected_work,
-            &mut expected_sheet,
-        )
-    {
-        return Ok(Outcome::Unreadable);
-    }
+    put_expected(
+        &mut rt.stdin(),
+        case,
+        &mut expected_work,
+        &mut expected_sheet,
+    )?;
     let mut work = [0u32; WORK];
     let mut sheet = [0u8; SHEET];
     let answer = call(case, input, &mut work, &mut sheet);
-    let expected = case.answer;
-    if same_answer(answer, expected) && same_areas(&work, &sheet, &expected_work, &expected_sheet) {
-        return Ok(Outcome::Right(case.group));
-    }
-    print_wrong(rt, nth, answer.number, expected.number)?;
-    Ok(Outcome::Wrong(case.group))
+    Ok(Verdict {
+        group: case.group,
+        given: answer.number,
+        expected: case.answer.number,
+        right: answer == case.answer && work == expected_work && sheet == expected_sheet,
+    })
 }
 
-// Reads the input of the nth case, for which there is room, and runs the case.
-fn run_next(rt: &HostRuntime, nth: u64, case: Case, room: &mut [u8]) -> io::Result<Outcome> {
-    let bytes = case.input;
-    if case.group >= GROUPS || bytes > room.len() || !read(&mut rt.stdin(), room, bytes) {
-        return Ok(Outcome::Unreadable);
-    }
-    run(rt, nth, case, &room[0..bytes])
-}
-
-// Reads the nth case and runs it.
-fn next(rt: &HostRuntime, nth: u64) -> io::Result<Outcome> {
+// Reads the next case, for whose input there is room, and runs it: `None` at the end of the file.
+fn next(rt: &HostRuntime, room: &mut [u8]) -> Result<Option<Verdict>, Unreadable> {
     let mut front = [0u8; FRONT];
     let got = read_full(&mut rt.stdin(), &mut front);
     if got == 0 {
-        return Ok(Outcome::End);
+        return Ok(None);
     }
     if got < FRONT {
-        return Ok(Outcome::Unreadable);
+        return Err(Unreadable);
     }
-    let mut input = vec![in rt.alloc(); 0u8; INPUT]?;
-    run_next(rt, nth, Case::new(&front), &mut input)
+    let case = Case::new(&front);
+    if case.group >= GROUPS {
+        return Err(Unreadable);
+    }
+    let input = read(&mut rt.stdin(), room, case.input)?;
+    Ok(Some(run(rt, case, input)?))
 }
 
-fn count(tally: &mut [u64], group: usize) {
-    if group < tally.len() {
-        tally[group] = tally[group].wrapping_add(1);
+fn count(tallies: &mut [Tally; GROUPS], verdict: Verdict) {
+    if let Some(tally) = tallies.get_mut(verdict.group) {
+        if verdict.right {
+            tally.right = tally.right.wrapping_add(1);
+        } else {
+            tally.wrong = tally.wrong.wrapping_add(1);
+        }
     }
 }
 
 // Runs every case to the end of the file.
-fn run_all(
-    rt: &HostRuntime,
-    right: &mut [u64; GROUPS],
-    wrong: &mut [u64; GROUPS],
-) -> io::Result<()> {
-    let mut nth = 1;
-    while nth < CASES {
-        let outcome = next(rt, nth)?;
-        match outcome {
-            Outcome::Right(group) => count(right, group),
-            Outcome::Wrong(group) => count(wrong, group),
-            Outcome::Unreadable => break,
-            Outcome::End => return Ok(()),
+fn run_all(rt: &HostRuntime, tallies: &mut [Tally; GROUPS]) -> io::Result<()> {
+    let mut room = vec![in rt.alloc(); 0u8; INPUT]?;
+    for nth in 1..CASES {
+        match next(rt, &mut room) {
+            Ok(None) => return Ok(()),
+            Err(Unreadable) => return print_unreadable(rt, nth),
+            Ok(Some(verdict)) => {
+                if !verdict.right {
+                    print_wrong(rt, nth, verdict.given, verdict.expected)?;
+                }
+                count(tallies, verdict);
+            }
         }
-        nth += 1;
     }
-    print_unreadable(rt, nth)
+    print_unreadable(rt, CASES)
 }
 
 fn main(rt: HostRuntime) -> io::Result<()> {
-    let mut right = [0u64; GROUPS];
-    let mut wrong = [0u64; GROUPS];
-    run_all(&rt, &mut right, &mut wrong)?;
-    print_groups(&rt, &right, &wrong)
+    let mut tallies = [Tally { right: 0, wrong: 0 }; GROUPS];
+    run_all(&rt, &mut tallies)?;
+    print_groups(&rt, &tallies)
 }

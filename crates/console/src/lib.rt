@@ -35,7 +35,8 @@ pub fn read_all<R: Read>(from: &mut R, buf: &mut [u8]) -> io::Result<usize>
     Ok(done)
 }
 
-// One line on standard error. Where that fails too, there is nowhere left to say so.
+// One line on standard error. Where that fails too, there is nowhere left to say so. No clause here or below, since std says nothing of what
+// stands in a stream after a write that fails.
 pub fn complain<E: Print>(err: &E, line: &[u8]) {
     let _ = err.write_all(line);
 }

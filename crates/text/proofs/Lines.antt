@@ -148,6 +148,13 @@ module _ {S : Type 0} {steps : S → Option ℕ → S → Type 0} {s : S} {xs : 
       let short : length (line ys) ≤ length (line xs) = rw same (fewer (length ys) xs) in
       omega arith)
 
+  -- so there is in 11 bytes for each number of 32 bits, or in 21 for each of 64, and 1 byte more
+  pub room_for_narrow : Below (2 ^ 32) xs → (at : ℕ) (old : List ℕ) → at + 11 * length xs + 1 ≤ length old → RoomForRuns steps s at old
+  room_for_narrow small at old fits = let short = line-length xs small in room_for_runs at old (omega arith)
+
+  pub room_for_wide : Below (2 ^ 64) xs → (at : ℕ) (old : List ℕ) → at + 21 * length xs + 1 ≤ length old → RoomForRuns steps s at old
+  room_for_wide small at old fits = let short = wide_line_length xs small in room_for_runs at old (omega arith)
+
   -- what a whole run put is their line
   pub line_given : {at : ℕ} {old new : List ℕ} {r : ℕ} → WholeRun steps s (λ p. Put (line p.items) at old new r) → Put (line xs) at old new r
   line_given put =

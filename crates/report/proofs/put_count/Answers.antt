@@ -3,7 +3,7 @@ use mathlib.Core.List.{[], ◌∷◌}
 use native.Mathlib.Omega.{arith}
 use borrow.Author.Rules.{rules}
 use Rattle.std.proofs.Common.{tests}
-use Rattle.text.proofs.Lines.{line-length, room_for_runs, line_given, widened, YieldsList-from_array}
+use Rattle.text.proofs.Lines.{room_for_narrow, line_given, widened, YieldsList-from_array}
 use Rattle.report.proofs.Lines.{no_count, a_count}
 use Rattle.report.proofs.put_count.Goals as goal
 
@@ -13,8 +13,7 @@ returns-then-count-eq0 c = no_count _ _ c.if-count-eq0.true
 pub put_line-requires-clause-room : goal.put_line-requires-clause-room
 put_line-requires-clause-room c =
     let xs = c.args.number ∷ c.args.count ∷ [] in
-    let short = line-length xs (search rules) in
-    room_for_runs (widened _ (YieldsList-from_array xs cc) c.map.ensures.closure (λ x r q k. search (rules, tests))) _ _ (omega arith)
+    room_for_narrow (widened _ (YieldsList-from_array xs cc) c.map.ensures.closure (λ x r q k. search (rules, tests))) (search rules) _ _ (omega arith)
 
 pub returns : goal.returns
 returns c =

@@ -1,13 +1,12 @@
 -- No loop: what is put stands for the status that is matched, and where there is a report the figures stand after the counts. Assumes nothing.
 use mathlib.Core.Path.{◌≡◌}
-use mathlib.Core.List.{[], ◌∷◌}
 use native.Mathlib.Omega.{arith}
 use lib.ListN.{length}
 use Rattle.std.proofs.Common.{Some}
 use Rattle.std.proofs.lemmas.Iterator.Adapters.{YieldsList-from_once}
 use Rattle.jobs.specs.Report.{numbers}
 use borrow.Author.Rules.{rules}
-use Rattle.text.proofs.Lines.{line-length, room_for_runs, line_given}
+use Rattle.text.proofs.Lines.{room_for_narrow, line_given}
 use Rattle.report.proofs.Lines.{too_long_lem, short_tally, reported}
 use Rattle.report.proofs.put_day.Goals as goal
 
@@ -15,9 +14,7 @@ pub returns-in-TooLong : goal.returns-in-TooLong
 returns-in-TooLong c = too_long_lem _ _ c.in-TooLong.is c.put_bytes.ensures
 
 pub put_line-requires-clause-room : goal.put_line-requires-clause-room
-put_line-requires-clause-room c =
-    let short = line-length (15 ∷ []) (search rules) in
-    room_for_runs (YieldsList-from_once (Some 15) cc) _ _ (omega arith)
+put_line-requires-clause-room c = room_for_narrow (YieldsList-from_once (Some 15) cc) (search rules) _ _ (omega arith)
 
 pub returns-in-ShortTally : goal.returns-in-ShortTally
 returns-in-ShortTally c =

@@ -2,7 +2,7 @@
 use mathlib.Core.List.{[], ◌∷◌}
 use native.Mathlib.Omega.{arith}
 use borrow.Author.Rules.{rules}
-use Rattle.text.proofs.Lines.{wide_line_length, room_for_runs, line_given, YieldsList-from_array}
+use Rattle.text.proofs.Lines.{room_for_wide, line_given, YieldsList-from_array}
 use Rattle.report.proofs.Lines.{no_goal, a_goal}
 use Rattle.report.proofs.put_goal.Goals as goal
 
@@ -13,8 +13,7 @@ pub put_line-requires-clause-room : goal.put_line-requires-clause-room
 put_line-requires-clause-room c =
     let t = c.args.t in
     let xs = t.goal ∷ t.routes ∷ t.cost ∷ [] in
-    let short = wide_line_length xs (search rules) in
-    room_for_runs (YieldsList-from_array xs cc) _ _ (omega arith)
+    room_for_wide (YieldsList-from_array xs cc) (search rules) _ _ (omega arith)
 
 pub returns : goal.returns
 returns c =

@@ -2,7 +2,7 @@
 use native.Mathlib.Omega.{arith}
 use borrow.Author.Rules.{rules}
 use Rattle.std.proofs.Common.{tests}
-use Rattle.text.proofs.Lines.{line-length, room_for_runs, line_given, widened, YieldsList-from_array}
+use Rattle.text.proofs.Lines.{line-length, room_for_narrow, line_given, widened, YieldsList-from_array}
 use Rattle.answer.specs.Numbers.{answer_of}
 use Rattle.route.specs.Printed.{six}
 use Rattle.route.proofs.put_answer.Goals as goal
@@ -10,8 +10,7 @@ use Rattle.route.proofs.put_answer.Goals as goal
 pub put_line-requires-clause-room : goal.put_line-requires-clause-room
 put_line-requires-clause-room c =
     let xs = six (answer_of c.args.answer) in
-    let short = line-length xs (search rules) in
-    room_for_runs (widened _ (YieldsList-from_array xs cc) c.map.ensures.closure (λ x r q k. search (rules, tests))) _ _ (omega arith)
+    room_for_narrow (widened _ (YieldsList-from_array xs cc) c.map.ensures.closure (λ x r q k. search (rules, tests))) (search rules) _ _ (omega arith)
 
 pub returns : goal.returns
 returns c =

@@ -9,7 +9,7 @@ use Rattle.std.specs.Iterator.Adapters.{take_steps}
 use Rattle.std.proofs.lemmas.Iterator.{YieldsList, YieldsList-from_slice, YieldsList-from_take}
 use Rattle.std.proofs.lemmas.Iterator.Consumers.{YieldsList-at}
 use Rattle.std.proofs.lemmas.List.{length-take}
-use Rattle.text.proofs.Lines.{line-length, room_for_runs, line_given, widened}
+use Rattle.text.proofs.Lines.{room_for_narrow, line_given, widened}
 use Rattle.route.specs.Printed.{places_on}
 use Rattle.route.proofs.Sheets.{places_small}
 use Rattle.route.proofs.put_places.Goals.{After-take-places}
@@ -30,10 +30,10 @@ pub put_line-requires-clause-room : goal.put_line-requires-clause-room
 put_line-requires-clause-room c =
     let at = goal.at.put_line-requires-clause-room c in
     let read = c.read-reading.result in
-    let short = line-length (places_on c.args.sheet.now) (places_small c.args.sheet.now (λ i. omega (arith, c.type_inv.sheet i))) in
+    let small = places_small c.args.sheet.now (λ i. omega (arith, c.type_inv.sheet i)) in
     let few : length read.places ≡ 4096 = search rules in
     let gives = YieldsList-at c.map.ensures.source (taken at.After-take-places) in
-    room_for_runs (widened _ gives c.map.ensures.closure (λ x r q k. search (rules, tests))) _ _
+    room_for_narrow (widened _ gives c.map.ensures.closure (λ x r q k. search (rules, tests))) small _ _
     (omega (arith, length-take read.count read.places, ap length (listed at.After-take-places)))
 
 pub returns : goal.returns

@@ -1,21 +1,19 @@
 -- No loop: the map for 0, or the number in a line. Assumes nothing.
-use mathlib.Core.List.{[], ◌∷◌}
 use Prim.Native.Nat.{◌≤◌}
 use native.Mathlib.Omega.{arith}
 use lib.ListN.{length}
 use borrow.Author.Rules.{rules}
 use Rattle.std.proofs.Common.{Some}
 use Rattle.std.proofs.lemmas.Iterator.Adapters.{YieldsList-from_once}
-use Rattle.text.proofs.Lines.{line-length, room_for_runs, line_given}
+use Rattle.text.proofs.Lines.{room_for_narrow, line_given}
 use Rattle.write_map.proofs.Printing.{map_front, number_front}
 use Rattle.write_map.proofs.put_written.Goals as goal
 
 pub put_line-end-requires-clause-room : goal.put_line-end-requires-clause-room
 put_line-end-requires-clause-room c =
     let number = c.write-answer.result.number in
-    let short = line-length (number ∷ []) (search rules) in
     let room : 12 ≤ length c.args.err.now = search rules in
-    room_for_runs (YieldsList-from_once (Some number) cc) _ _ (omega arith)
+    room_for_narrow (YieldsList-from_once (Some number) cc) (search rules) _ _ (omega arith)
 
 pub returns-then-answer-ne0 : goal.returns-then-answer-ne0
 returns-then-answer-ne0 c =
