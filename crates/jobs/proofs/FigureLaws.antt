@@ -20,7 +20,7 @@ use Rattle.tally.specs.Tallied.{record_at}
 use Rattle.jobs.specs.declared.Status.TheVariants.{Reported}
 use Rattle.jobs.specs.Figures.{has_number, count, Arrival, goal_of, arrival_of, arrivals, total_cost, largest_cost, ending_at, total_expansions}
 use Rattle.jobs.specs.Report.{max_entries, numbers, figures, without, tally_of}
-use Rattle.jobs.specs.Steps.{counted, with_expansions, with_cost, noted, Notable, routes_by, costs_by, raised, Addable, last_on, routes_with, costs_with}
+use Rattle.jobs.specs.Steps.{noted, Notable, routes_by, costs_by, raised, Addable, last_on, routes_with, costs_with}
 use Rattle.jobs.specs.Steps.{Talliable}
 use Rattle.jobs.proofs.Bounded.{Bounded, max_route, max_expansions}
 use Rattle.jobs.proofs.ByKey.{values_length, value_at, values_same, values_zero, measures_next, regrouped}
@@ -147,7 +147,7 @@ largest_next (y ∷ ys) x = rw (largest_next ys x) (omega arith)
 
 -- The figures of one result more are those before it with its answer noted.
 pub figures_next : (rs : List Result) (r : Result) → figures (rs ++ (r ∷ [])) ≡ noted (figures rs) r.answer
-unfolding figures noted counted with_expansions with_cost raised has_number arrival_of
+unfolding figures noted raised has_number arrival_of
 figures_next rs r = go (has_number 0 r) (has_number 17 r) refl refl
   where
     go : (route none : Bool) → has_number 0 r ≡ route → has_number 17 r ≡ none → figures (rs ++ (r ∷ [])) ≡ noted (figures rs) r.answer
