@@ -1,4 +1,5 @@
-// The work area: where its regions begin, what stands in them, and an arc in one word (specs/Regions.antt). Nobody else counts words.
+// The work area: where its regions begin, what stands in them, and an arc in one word (specs/Regions.antt). Nobody else counts words. The words and the
+// count of places are two parameters: a struct of both would hold a `&mut`, and each contract would have to say that it still holds the same one.
 #![tactic(auto)]
 
 ghost use Rattle.std.specs.Prelude.{◌≡◌, not, ◌≤◌, ◌<◌, eqb, length};
@@ -18,6 +19,7 @@ pub const NONE: u32 = 0xFFFF_FFFF;
 // What an arc's end counts in its word: above every cost.
 const END: u32 = Map::ARC_COST + 1;
 
+// A region has a function by its name, as a caller reads it, where a number for the region would say less; each asks that its product fits.
 pub fn depths_at(places: usize) -> usize
     requires { places ≤ max_places }
     ensures { result ≡ depths_at places }
@@ -89,13 +91,13 @@ pub fn set_label(work: &mut [u32], v: usize, d: u32)
     work[v] = d;
 }
 
-// No place has a label.
+// No place has a label. A query begins with this: by the slice's own `fill`, route searches on small maps take up to a fifth longer.
 pub fn clear_labels(work: &mut [u32], places: usize)
     requires { (places ≤ max_places) × (arcs_at places ≤ length work.old) }
     ensures { NoLabels places work.old work.new }
 {
     let end = depths_at(places);
-    area::fill(&mut work[0..end], NONE);
+    area::fill(&mut work[..end], NONE);
 }
 
 // The depth of place v: how many arcs the search has come along to its label.
@@ -127,17 +129,17 @@ pub fn set_parent(work: &mut [u32], places: usize, v: usize, u: u32)
     work[parents_at(places) + v] = u;
 }
 
-// No place has a parent.
+// No place has a parent. Filled as the labels are.
 pub fn clear_parents(work: &mut [u32], places: usize)
     requires { (places ≤ max_places) × (arcs_at places ≤ length work.old) }
     ensures { NoParents places work.old work.new }
 {
     let start = parents_at(places);
-    let end = start + places;
-    area::fill(&mut work[start..end], NONE);
+    area::fill(&mut work[start..start + places], NONE);
 }
 
 // Place number i of the list of expanded places.
+#[tactic(auto, unfolding(crate::specs::Labels::listed_at))]
 pub fn listed(work: &[u32], places: usize, i: usize) -> usize
     requires { HasPlace places i work.now }
     ensures { result ≡ listed_at places work.now i }
@@ -167,6 +169,7 @@ pub fn is_goal(work: &[u32], places: usize, v: usize) -> bool
 }
 
 // The row of place v: the numbers of its first arc, and of the one after its last.
+#[tactic(auto, unfolding(crate::specs::Map::row_end))]
 pub fn row_end(work: &[u32], places: usize, v: usize) -> usize
     requires { HasPlace places v work.now }
     ensures { result ≡ row_end places work.now v }
@@ -174,6 +177,7 @@ pub fn row_end(work: &[u32], places: usize, v: usize) -> usize
     work[ends_at(places) + v] as usize
 }
 
+#[tactic(auto, using(crate::proofs::Held::row_start_after), unfolding(crate::specs::Map::row_start))]
 pub fn row_start(work: &[u32], places: usize, v: usize) -> usize
     requires { HasPlace places v work.now }
     ensures { result ≡ row_start places work.now v }
