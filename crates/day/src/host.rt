@@ -14,6 +14,7 @@ const TOTALS: usize = 3;
 
 const FIGURES: usize = TOTALS + number::END;
 
+// This is no `From`: a status is of crate jobs, and a host's numbers are of this one.
 #[tactic(auto, unfolding(crate::specs::Host::status_number))]
 fn status_number(status: Status) -> u32
     ensures { result ≡ status_number status }

@@ -11,7 +11,7 @@ use map::number;
 impl Day {
     // The figures before any answer.
     #[tactic(auto, unfolding(crate::specs::Report::without))]
-    pub fn without(status: Status) -> Day
+    pub(crate) fn without(status: Status) -> Day
         ensures { result ≡ without status }
     {
         Day {
@@ -25,7 +25,7 @@ impl Day {
 
     // Every answer is counted by its number. A route adds its cost and its expansions, and no route its expansions; nothing else does.
     #[tactic(auto, unfolding(crate::specs::Steps::noted))]
-    pub fn note(&mut self, a: Answer)
+    pub(crate) fn note(&mut self, a: Answer)
         requires { Notable self.old (answer_of a) }
         ensures { self.new ≡ noted self.old (answer_of a) }
     {

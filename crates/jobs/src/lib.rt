@@ -38,7 +38,7 @@ const INPUT: usize = 65536;
 
 const ENTRIES: usize = 1000;
 
-// The figures of a report, and how many records of the tally it sets: none where it is refused.
+// The figures of a report, and how many records of the tally it sets, as `tally::put` takes it: none where it is refused.
 #[derive(Clone, Copy, Debug, PartialEq, Eq)]
 pub struct Reckoning {
     pub day: Day,

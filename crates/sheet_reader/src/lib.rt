@@ -15,8 +15,8 @@ pub use map::number::{FOUND, NO_ROUTE};
 // How many places a reading has room for.
 pub const PLACES: usize = Map::PLACES;
 
-// What a sheet says: the read's number, the cost, and the places with zeros after the last. The places are an array with their count beside
-// it, as the calls use no heap.
+// What a sheet says: the read's number, the cost, and the places with zeros after the last. The number is the one that a host gets, and the
+// places are an array with their count beside it, as the calls use no heap.
 #[derive(Debug, PartialEq, Eq, Drop)]
 pub struct Reading {
     pub number: u32,

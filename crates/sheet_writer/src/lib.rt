@@ -8,13 +8,13 @@ ghost use Rattle.layout.specs.Labels.{word_or, parent_at};
 ghost use Rattle.sheet_writer.specs.Header.{FitsHeader, HeaderWritten};
 ghost use Rattle.sheet_writer.specs.Places.{Leads, ArcsCounted, FitsPlaces, PlacesWritten};
 
+use layout::NONE;
 use map::sheet;
 
+// A constant is cast, since `u32::from` is no constant's call.
 const ROUTE_KIND: u32 = sheet::ROUTE as u32;
 
 const NO_ROUTE_KIND: u32 = sheet::NO_ROUTE as u32;
-
-const NONE: u32 = layout::NONE;
 
 // Where the first place stands: after length, kind, cost and count.
 const FIRST: usize = 10;
@@ -30,7 +30,7 @@ pub fn no_route(sheet: &mut [u8], start: u32) -> u32
     6
 }
 
-// The parent of v, or NONE.
+// The parent of v, or NONE, as the word of the lent area has it.
 fn parent(work: &[u32], n: usize, v: u32) -> u32
     requires { HasPlace n v work.now }
     ensures { word_or result ≡ parent_at n work.now v }
