@@ -1,6 +1,6 @@
 // An entry: a place and its key as a pair of words, the key before the place. One comparison then puts the lesser key first and, of equal
 // keys, the lower place.
-ghost use Rattle.std.specs.Prelude.{◌≡◌, ◌<◌, min};
+ghost use Rattle.std.specs.Prelude.{◌<◌};
 ghost use Rattle.open_list.specs.Entry.{IsEntry, IsWord, word_end};
 
 use area::pair;
@@ -18,11 +18,4 @@ pub fn pair(place: usize, key: u32) -> u64
     ensures { IsEntry place key result }
 {
     pair::join(key, place)
-}
-
-// The first of two entries. The library's `min` makes the router's whole call 4 percent slower: four of them at once become vector code.
-pub fn first(a: u64, b: u64) -> u64
-    ensures { result ≡ min a b }
-{
-    if a <= b { a } else { b }
 }

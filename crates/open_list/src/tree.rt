@@ -33,10 +33,9 @@ fn nodes4(words: &[u32], c: usize) -> u64
     requires { c + c + 7 < length words.now }
     ensures { result ≡ least4 (node_entry words.now) c }
 {
-    entry::first(
-        entry::first(node(words, c), node(words, c + 1)),
-        entry::first(node(words, c + 2), node(words, c + 3)),
-    )
+    let left = node(words, c).min(node(words, c + 1));
+    let right = node(words, c + 2).min(node(words, c + 3));
+    left.min(right)
 }
 
 // The entry of place p, and the first of four places from p on.
@@ -51,10 +50,9 @@ fn leaves4(words: &[u32], m: usize, p: usize) -> u64
     requires { LeafRun 4 m p words.now }
     ensures { result ≡ least4 (leaf_entry m words.now) p }
 {
-    entry::first(
-        entry::first(leaf(words, m, p), leaf(words, m, p + 1)),
-        entry::first(leaf(words, m, p + 2), leaf(words, m, p + 3)),
-    )
+    let left = leaf(words, m, p).min(leaf(words, m, p + 1));
+    let right = leaf(words, m, p + 2).min(leaf(words, m, p + 3));
+    left.min(right)
 }
 
 // Entry x becomes node i's.
@@ -106,15 +104,15 @@ pub fn close(words: &mut [u32], places: usize, p: usize)
     words[m + m + p] = super::NONE;
     let mut i = (m + p - 1) / 8;
     let block = 8 * i + 1 - m;
-    let mut x = entry::first(leaves4(words, m, block), leaves4(words, m, block + 4));
+    let mut x = leaves4(words, m, block).min(leaves4(words, m, block + 4));
     while 0 < i {
         let j = (i - 1) / 8;
         let c = 8 * j + 1;
         // The parent's seven other children first, so that the read of eight nodes need not wait for x.
         store(words, i, super::EMPTY);
-        let others = entry::first(nodes4(words, c), nodes4(words, c + 4));
+        let others = nodes4(words, c).min(nodes4(words, c + 4));
         store(words, i, x);
-        x = entry::first(others, x);
+        x = others.min(x);
         i = j;
     }
     store(words, 0, x);
