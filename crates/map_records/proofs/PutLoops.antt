@@ -2,11 +2,12 @@
 use mathlib.Core.Path.{◌≡◌, refl, ap, ◌∙◌}
 use mathlib.Core.Logic.{◌≢◌}
 use mathlib.Core.List.{List, [], ◌∷◌, ◌++◌, flat_map, append_assoc}
-use Prim.Native.Nat.{ℕ, suc, ◌+◌, ◌*◌, ◌≤◌, ◌<◌}
+use Prim.Native.Nat.{ℕ, zero, suc, ◌+◌, ◌*◌, ◌/◌, ◌≤◌, ◌<◌}
 use native.Mathlib.Numerals.{add-one}
 use native.Mathlib.Omega.{arith}
 use lib.ListN.{length, get_or, drop, length-append, length-drop, drop_of_length-le}
-use lib.Seq.{length-sets, drop-cons}
+use lib.Seq.{length-sets, drop-cons, get_or-take, get_or-drop}
+use Rattle.std.specs.Simd.{first_chunks}
 use borrow.Author.Tests.{eq-eqb, ne_eqb}
 use Rattle.area.specs.Part.{part}
 use Rattle.area.proofs.Parts.{part_length}
@@ -75,7 +76,7 @@ module _ (fields : List ℕ) (k : ℕ) where
   fields_done h = rw (drop_of_length-le fields h)
 
 -- the lanes of words from number k on
-pub lanes_from_lem : (words : List ℕ) (k : ℕ) → 2 * k + 1 < length words
+lanes_from_lem : (words : List ℕ) (k : ℕ) → 2 * k + 1 < length words
     → Begins (put_lanes (drop (2 * k) words)) (put_lane (lane_in (key_from (get_or words (2 * k) 0) (get_or words (2 * k + 1) 0))))
     (put_lanes (drop (2 * (k + 1)) words))
 unfolding put_lanes keys_of flat_map
@@ -84,6 +85,23 @@ lanes_from_lem words k h =
     let low = drop-cons words (suc (2 * k)) 0 (omega arith) in
     let next : 2 * (k + 1) ≡ suc (suc (2 * k)) = omega arith in
     record { split = rw (high, low, next, add-one (2 * k)) }
+
+-- number i of pair number k of the words
+pair_at : (words : List ℕ) (n k i : ℕ) → k < n → i < 2 → get_or (get_or (first_chunks 2 n words) k []) i 0 ≡ get_or words (2 * k + i) 0
+pair_at words zero k i h l = absurd (omega arith)
+pair_at words (suc n) zero i h l = let z : 2 * 0 + i ≡ i = omega arith in rw z (get_or-take 2 words i 0 l)
+pair_at words (suc n) (suc k) i h l =
+    let next : 2 * suc k + i ≡ 2 + (2 * k + i) = omega arith in
+    rw next (pair_at (drop 2 words) n k i (omega arith) l ∙ get_or-drop 2 words (2 * k + i) 0)
+
+pub pairs_from : (words : List ℕ) (k : ℕ) {pairs : List (List ℕ)} → pairs ≡ first_chunks 2 (length words / 2) words → k < length words / 2
+    → let pair = get_or pairs k [] in
+    Begins (put_lanes (drop (2 * k) words)) (put_lane (lane_in (key_from (get_or pair 0 0) (get_or pair 1 0)))) (put_lanes (drop (2 * (k + 1)) words))
+pairs_from words k is h =
+    let high = pair_at words (length words / 2) k 0 h (omega arith) in
+    let low = pair_at words (length words / 2) k 1 h (omega arith) in
+    let first : 2 * k + 0 ≡ 2 * k = omega arith in
+    rw (is, high, low, first) (lanes_from_lem words k (omega arith))
 
 no_lanes : (words : List ℕ) → length words ≤ 1 → put_lanes words ≡ []
 unfolding put_lanes keys_of flat_map

@@ -61,8 +61,8 @@ fn put_lanes(out: &mut [u8], start: usize, words: &[u32]) -> usize
     ensures { Put (put_lanes words.now) start out.old out.new result }
 {
     let mut at = start;
-    for k in 0..words.len() / 2 {
-        at = put_lane(out, at, words[2 * k], words[2 * k + 1]);
+    for [high, low] in words.as_chunks::<2>().0 {
+        at = put_lane(out, at, *high, *low);
     }
     at
 }
