@@ -7,27 +7,6 @@ ghost use Rattle.model.specs.Bytes.{u16, u32, put16 as bytes16, put32 as bytes32
 
 pub mod pair;
 
-// A number of 16 bits as one of 32.
-pub fn wide16(x: u16) -> u32
-    ensures { (result ≡ x) × (result < 65536) }
-{
-    x as u32
-}
-
-// A number of 16 bits as an index.
-pub fn index(x: u16) -> usize
-    ensures { (result ≡ x) × (result < 65536) }
-{
-    x as usize
-}
-
-// A number of 32 bits as an index.
-pub fn index32(x: u32) -> usize
-    ensures { result ≡ x }
-{
-    x as usize
-}
-
 // The 2-byte field that begins at byte i.
 pub fn u16_at(s: &[u8], i: usize) -> u16
     requires { i + 1 < length s.now }
