@@ -15,7 +15,7 @@ pub fn u16_at(s: &[u8], i: usize) -> u16
     u16::from(s[i]) + 256 * u16::from(s[i + 1])
 }
 
-// The 4-byte field that begins at byte i.
+// The 4-byte field that begins at byte i. It is two of 2 bytes; one function for both sizes would be a loop over bytes.
 pub fn u32_at(s: &[u8], i: usize) -> u32
     requires { i + 3 < length s.now }
     ensures { result ≡ u32 s.now i }

@@ -2,6 +2,7 @@
 use mathlib.Core.Path.{◌≡◌, refl, ap, sym, ◌∙◌}
 use mathlib.Core.Bool.{Bool, true, false, ◌||◌, or-false, or_assoc}
 use mathlib.Core.List.{List, [], ◌∷◌, ◌++◌, head_d}
+use Rattle.std.specs.Prelude.{Option}
 use Prim.Native.Nat.{ℕ, suc, ◌+◌, ◌<◌}
 use native.Mathlib.Omega.{arith}
 use native.Mathlib.Numerals.{add-one}
@@ -26,16 +27,16 @@ use Rattle.judge.specs.Survey.{first_table}
 -- ---- The table in force
 
 -- of these tables the first is in force; where there is none, the fixed one
-abbrev pub FirstInForce : List ℕ → List (List ℕ) → ℕ → Type 0
+abbrev pub FirstInForce : List ℕ → List (List ℕ) → Option ℕ → Type 0
 FirstInForce input tables at = InForce input at (head_d tables fixed_factors)
 
 -- one table more, which a record states
-pub table_more : {input : List ℕ} (tables : List (List ℕ)) {noted at : ℕ} {r : declared.Record.Record}
+pub table_more : {input : List ℕ} (tables : List (List ℕ)) {noted : Option ℕ} {at : ℕ} {r : declared.Record.Record}
     → FirstInForce input tables noted → Says input r (Factors at) → LiesIn input r → 0 < r.start
     → FirstInForce input (tables ++ (u16s 8 input at ∷ [])) (first_table (length tables) noted at)
 unfolding head_d start_by end_by
 table_more {input} [] {noted} {at} now says lies behind =
-    record { lie = λ some. omega (arith, says.ends, lies.ends); are = own_table input at λ z. omega (arith, says.begins) }
+    record { lie = λ n is. let same : at ≡ n = cc in omega (arith, says.ends, lies.ends); are = own_table input at }
 table_more (fs ∷ tables) now says lies behind =
     rw (ne_eqb (length (fs ∷ tables)) 0 λ z. omega arith) (record { lie = now.lie; are = now.are })
 

@@ -49,7 +49,7 @@ empty =
       lanes = 0;
       waits = 0;
       tables = 0;
-      factors_at = 0;
+      factors_at = None;
       defaults = 0;
       default = 0;
       jobs = 0;
@@ -70,7 +70,7 @@ notes_start input marks clear =
       lanes = refl;
       waits = refl;
       tables = refl;
-      factors = record { lie = λ some. absurd (some refl); are = fixed_table input };
+      factors = record { lie = λ at some. let no : ◌≡◌ {A = ℕ} 0 1 = cc in absurd (omega arith); are = fixed_table input };
       defaults = refl;
       default = refl;
       jobs = refl;

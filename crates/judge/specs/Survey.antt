@@ -5,6 +5,7 @@ use Rattle.std.proofs.Math.Option.{Option, none, some}
 use Rattle.judge.specs.declared.survey.Survey.{Survey}
 use Rattle.judge.specs.Numbers.{Given, no_number, number_or, given_number, earlier}
 use Rattle.judge.specs.Marks.{mark_of, first_mark, marked, marked_by}
+use Rattle.std.specs.Prelude as std
 use Rattle.std.specs.Prelude.{Some, None}
 use Rattle.map.specs.declared.refusal.Refusal.TheVariants.{UnknownKind, WrongLength, WrongHead, OutsideMap, FreeArc, LargeEstimate, TwoEstimates, WrongMeasure}
 use Rattle.map.specs.declared.record as declared
@@ -147,8 +148,8 @@ with_wait s place =
     }
 
 -- a first table, whose factors begin at byte `at`, replaces the fixed one
-abbrev pub first_table : (tables noted at : ℕ) → ℕ
-first_table tables noted at = cond (eqb tables 0) at noted
+abbrev pub first_table : (tables : ℕ) → (noted : std.Option ℕ) → (at : ℕ) → std.Option ℕ
+first_table tables noted at = cond (eqb tables 0) (Some at) noted
 
 -- second tables and the rules of factors are looked for later
 unfoldable pub with_factors : Survey → ℕ → Survey

@@ -22,9 +22,9 @@ pub struct Survey {
     pub arcs: usize,
     pub lanes: usize,
     pub waits: usize,
-    // The records that state factors, and where the factors of the first begin, 0 where there is none.
+    // The records that state factors, and where the factors of the first begin, if there is one.
     pub tables: usize,
-    pub factors_at: usize,
+    pub factors_at: Option<usize>,
     // The records that state a default, and what the first states, 0 where there is none.
     pub defaults: usize,
     pub default: u32,
@@ -199,11 +199,11 @@ fn with_wait(s: Survey, place: usize) -> Survey
 }
 
 // Where the factors in force begin, with one more table, whose factors begin at byte `at`: a first one replaces the fixed ones.
-fn first_table(tables: usize, factors_at: usize, at: usize) -> usize
+fn first_table(tables: usize, factors_at: Option<usize>, at: usize) -> Option<usize>
     ensures { result ≡ first_table tables factors_at at }
 {
     if tables == 0 {
-        return at;
+        return Some(at);
     }
     factors_at
 }
@@ -297,7 +297,7 @@ pub fn of(input: &[u8], marks: &mut [u8; Map::PLACES]) -> Survey
         lanes: 0,
         waits: 0,
         tables: 0,
-        factors_at: 0,
+        factors_at: None,
         defaults: 0,
         default: 0,
         jobs: 0,

@@ -1,7 +1,8 @@
 -- The eight factors of a table, read one after another into an array. Assumes nothing.
 use mathlib.Core.Path.{◌≡◌, refl}
 use mathlib.Core.List.{List, append-nil}
-use Prim.Native.Nat.{ℕ, zero, suc, ◌+◌, ◌*◌, ◌<◌}
+use Rattle.std.specs.Prelude.{Option, Some, None}
+use Prim.Native.Nat.{ℕ, ◌+◌, ◌*◌, ◌<◌}
 use native.Mathlib.Omega.{arith}
 use lib.ListN.{length, set, replicate}
 use lib.Seq.{paste, take_all}
@@ -28,16 +29,15 @@ module _ (input : List ℕ) (at : ℕ) where
   all_factors = rw (take_all 8 (u16s 8 input at) (omega (arith, u16s-length 8 input at))) (append-nil (u16s 8 input at))
 
 -- the table in force, where the map has its own
-pub own_table : (input : List ℕ) (at : ℕ) → (at ≡ 0 → ⊥) → table_at input at ≡ u16s 8 input at
+pub own_table : (input : List ℕ) (at : ℕ) → table_at input (Some at) ≡ u16s 8 input at
 unfolding table_at
-own_table input zero some = absurd (some refl)
-own_table input (suc at) some = refl
+own_table input at = refl
 
-pub eight_factors : (input : List ℕ) (at : ℕ) → length (table_at input at) ≡ 8
+pub eight_factors : (input : List ℕ) (at : Option ℕ) → length (table_at input at) ≡ 8
 unfolding table_at
-eight_factors input zero = refl
-eight_factors input (suc at) = u16s-length 8 input (suc at)
+eight_factors input None = refl
+eight_factors input (Some at) = u16s-length 8 input at
 
-pub fixed_table : (input : List ℕ) → table_at input 0 ≡ fixed_factors
+pub fixed_table : (input : List ℕ) → table_at input None ≡ fixed_factors
 unfolding table_at
 fixed_table input = refl

@@ -1,5 +1,5 @@
 -- What a record of the input says, as the reader hands it on.
-use Rattle.std.specs.Prelude.{◌≡◌, Bool, true, false, cond, ◌||◌, not, List, [], ℕ, zero, suc, ◌+◌, ◌*◌, ◌≤◌, ltb, eqb, length, drop}
+use Rattle.std.specs.Prelude.{◌≡◌, Bool, true, false, cond, ◌||◌, not, List, [], ℕ, Option, Some, None, ◌+◌, ◌*◌, ◌≤◌, ltb, eqb, length, drop}
 use Rattle.map.specs.declared.record as declared
 use Rattle.map.specs.declared.record.Item.{Item}
 use Rattle.map.specs.declared.record.Item.TheVariants.{Head, Lane, Measured, Estimate, Wait, Factors, Default, Job, Misfit, Other}
@@ -80,17 +80,17 @@ meant input Other = model.other
 abbrev pub of_map : Item → model.Item
 of_map i = meant [] i
 
--- the table in force: the factors that begin at this byte, or the fixed ones for 0
-unfoldable pub table_at : List ℕ → ℕ → List ℕ
-table_at input zero = fixed_factors
-table_at input (suc at) = u16s 8 input (suc at)
+-- the table in force: the factors that begin at this byte, or the fixed ones where there is none
+unfoldable pub table_at : List ℕ → Option ℕ → List ℕ
+table_at input None = fixed_factors
+table_at input (Some at) = u16s 8 input at
 
 -- and they lie in the input
-abbrev pub TableLies : List ℕ → ℕ → Type 0
-TableLies input at = (at ≡ 0 → ⊥) → at + model.factors_bytes ≤ length input
+abbrev pub TableLies : List ℕ → Option ℕ → Type 0
+TableLies input table = (at : ℕ) → table ≡ Some at → at + model.factors_bytes ≤ length input
 
 -- the factors in force are these, and begin there
-pub record InForce (input : List ℕ) (at : ℕ) (factors : List ℕ) : Type 0 where
+pub record InForce (input : List ℕ) (at : Option ℕ) (factors : List ℕ) : Type 0 where
   pub lie : TableLies input at
   pub are : table_at input at ≡ factors
 

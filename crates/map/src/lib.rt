@@ -91,15 +91,15 @@ impl Site {
     }
 }
 
-// An accepted input: what a search is told of it, the allowance, its goals, `goals` numbers of 2 bytes from byte `goals_at` on, where its own factors
-// begin, 0 where it has none, and the estimate of places that have none of their own.
+// An accepted input: what a search is told of it, the allowance, its goals, `goals` numbers of 2 bytes from byte `goals_at` on, where its own
+// factors begin, if it has any, and the estimate of places that have none of their own.
 #[derive(Clone, Copy)]
 pub struct Job {
     pub site: Site,
     pub allowance: u32,
     pub goals: usize,
     pub goals_at: usize,
-    pub factors_at: usize,
+    pub factors_at: Option<usize>,
     pub default: u32,
 }
 
@@ -109,7 +109,7 @@ impl Job {
         allowance: u32,
         goals: usize,
         goals_at: usize,
-        factors_at: usize,
+        factors_at: Option<usize>,
         default: u32,
     ) -> Self
         ensures { (result.site ≡ site) × (result.allowance ≡ allowance) × (result.goals ≡ goals) × (result.goals_at ≡ goals_at)

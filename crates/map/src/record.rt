@@ -322,15 +322,16 @@ fn factors_at(input: &[u8], at: usize) -> [u32; Map::CLASS + 1]
     factors
 }
 
-// The table of factors in force: those that begin at byte `at`, or the fixed ones where that is 0, at which no record's body begins.
-pub fn factors(input: &[u8], at: usize) -> [u32; Map::CLASS + 1]
+// The table of factors in force: those that begin at this byte, or the fixed ones where there is none.
+#[tactic(auto, unfolding(crate::specs::Items::table_at))]
+pub fn factors(input: &[u8], at: Option<usize>) -> [u32; Map::CLASS + 1]
     requires { TableLies input.now at }
     ensures { result ≡ table_at input.now at }
 {
-    if at == 0 {
-        return Map::fixed_factors();
+    match at {
+        Some(at) => factors_at(input, at),
+        None => Map::fixed_factors(),
     }
-    factors_at(input, at)
 }
 
 // What a lane that is measured costs under a table of factors.

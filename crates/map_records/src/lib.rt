@@ -113,19 +113,22 @@ fn put_by_place<R: PlaceRecord>(out: &mut [u8], start: usize, unless: u32, words
     at
 }
 
-// The table of factors that begins at byte `factors_at`, where it is not the fixed one.
-fn put_table(out: &mut [u8], at: usize, input: &[u8], factors_at: usize) -> usize
-    requires { TableLies input.now factors_at × Fits (put_table (table_at input.now factors_at)) at out.old }
-    ensures { Put (put_table (table_at input.now factors_at)) at out.old out.new result }
+// The map's own table of factors, if it has one that is not the fixed one.
+fn put_table(out: &mut [u8], at: usize, input: &[u8], table: Option<usize>) -> usize
+    requires { TableLies input.now table × Fits (put_table (table_at input.now table)) at out.old }
+    ensures { Put (put_table (table_at input.now table)) at out.old out.new result }
 {
-    let factors = record::factors(input, factors_at);
+    let Some(from) = table else {
+        return at;
+    };
+    let factors = record::factors(input, table);
     let fixed = Map::fixed_factors();
     if factors == fixed {
         return at;
     }
     let body = put_header(out, at, record::FACTORS_BYTES, Kind::Factors);
-    let end = factors_at + record::FACTORS_BYTES;
-    area::put_bytes(out, body, &input[factors_at..end]);
+    let end = from + record::FACTORS_BYTES;
+    area::put_bytes(out, body, &input[from..end]);
     body + record::FACTORS_BYTES
 }
 

@@ -8,6 +8,9 @@
 // Each operation but `clear` and `reset` takes time logarithmic in the number of places; these two take linear time, but `reset` next to
 // none where the tree holds no open place. The hand takes a place that comes before the one in hand, which then goes into the tree. A
 // place that is closed while in hand takes no work on the tree: this saves nearly all of it in searches with few open places.
+//
+// Words, places and hand go in one by one. The words are a part of a work area whose other parts the caller uses between two calls, so that
+// a struct of the three would be made anew for each call.
 #![tactic(auto)]
 
 ghost use Rattle.std.specs.Prelude.{◌≡◌};

@@ -5,4 +5,4 @@ use Rattle.judge.proofs.survey.with_factors.Goals as goal
 
 pub returns : goal.returns
 unfolding with_factors
-returns c = rw (c.after-t.ensures, c.headless.ensures, c.first_table.ensures) refl
+returns c = rw (c.after-t.ensures, c.headless.ensures, c.first_table-t.ensures) refl
