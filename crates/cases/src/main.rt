@@ -46,6 +46,7 @@ struct Case {
 }
 
 impl Case {
+    // From the bytes of its numbers; a name of its own is as plain as an `impl From`.
     fn new(front: &[u8; FRONT]) -> Self {
         let answer = Answer {
             number: u32_at(front, 16),

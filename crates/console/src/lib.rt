@@ -1,4 +1,5 @@
-// What the programs share: the sizes of their memory, reading to the end, failing aloud.
+// What the programs share: the sizes of their memory, reading to the end, failing aloud. Each has a `main` and a `reply` of its own, a few lines
+// that differ in their texts and complaints.
 //
 // A program's exit status is 0 whatever it met. A read that a signal interrupts before it moves a byte counts as failed, like any other
 // that fails; such a write is tried again.
