@@ -46,6 +46,7 @@ struct Case {
 }
 
 impl Case {
+    // From the bytes of its numbers; a name of its own is as plain as an `impl From`.
     fn new(front: &[u8; FRONT]) -> Self {
         let answer = Answer {
             number: u32_at(front, 16),
@@ -109,8 +110,8 @@ fn print_groups(rt: &HostRuntime, tallies: &[Tally; GROUPS]) -> io::Result<()> {
     Ok(())
 }
 
-// Reads until room is full, the input ends or a read fails: how many bytes stand at its front then. `console::read_all` does not tell that of a
-// read that fails, which here ends the file.
+// Reads until room is full, the input ends or a read fails: how many bytes stand at its front then. `console::read_all` does not tell that
+// of a read that fails, which here ends the file.
 fn read_full(from: &mut io::Stdin, room: &mut [u8]) -> usize
     ensures { result ≤ length room.new }
 {

@@ -1,4 +1,5 @@
-// What the programs share: the sizes of their memory, reading to the end, failing aloud.
+// What the programs share: the sizes of their memory, reading to the end, failing aloud. Each has a `main` and a `reply` of its own, a few
+// lines that differ in their texts and complaints.
 //
 // A program's exit status is 0 whatever it met. A read that a signal interrupts before it moves a byte counts as failed, like any other
 // that fails; such a write is tried again.
@@ -19,8 +20,8 @@ pub const WORK: usize = 16384;
 // The bytes that are lent for the sheet: as many as the largest map asks for.
 pub const SHEET: usize = Map::SHEET_BYTES;
 
-// Reads until the input ends or buf is full: how many bytes stand at its front then. What came before a read that fails is not told, since it
-// is no whole input.
+// Reads until the input ends or buf is full: how many bytes stand at its front then. What came before a read that fails is not told, since
+// it is no whole input.
 pub fn read_all<R: Read>(from: &mut R, buf: &mut [u8]) -> io::Result<usize>
     ensures { IfOk result (λ n. IsPrefixLen n buf.new) }
 {
@@ -35,8 +36,8 @@ pub fn read_all<R: Read>(from: &mut R, buf: &mut [u8]) -> io::Result<usize>
     Ok(done)
 }
 
-// One line on standard error. Where that fails too, there is nowhere left to say so. No clause here or below, since std says nothing of what
-// stands in a stream after a write that fails.
+// One line on standard error. Where that fails too, there is nowhere left to say so. No clause here or below, since std says nothing of
+// what stands in a stream after a write that fails.
 pub fn complain<E: Print>(err: &E, line: &[u8]) {
     let _ = err.write_all(line);
 }

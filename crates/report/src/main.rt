@@ -34,6 +34,7 @@ fn put_count(text: &mut [u8], at: usize, number: u32, count: u32) -> usize
     text::put_line(text, at, [number, count].into_iter().map(u64::from))
 }
 
+// The counts by number; `as`, since no `From` takes an index to 32 bits.
 fn put_counts(text: &mut [u8], counts: &[u32]) -> usize
     requires { (count_room * length counts.now ≤ length text.old) × (length counts.now ≤ numbers) }
     ensures { PutWithin (count_room * length counts.now) (count_lines 0 counts.now) 0 text.old text.new result }

@@ -129,7 +129,8 @@ unfolding line
 fewer n xs = rw (length-append (parted (take n xs)), length-append (parted xs)) (omega (arith, fewer_parted n xs))
 
 -- an array's elements
-pub YieldsList-from_array : {A : Type 0} {n : ℕ} {s : IntoIter A n} (xs : List A) → array_into_iter_items s ≡ xs → YieldsList array_steps (λ x. x) s xs
+pub YieldsList-from_array : {A : Type 0} {n : ℕ} {s : IntoIter A n} (xs : List A) → array_into_iter_items s ≡ xs
+    → YieldsList array_steps (λ x. x) s xs
 YieldsList-from_array {s = s} xs are =
     rw are at (YieldsList-from_shown array_steps (λ x. x) array_into_iter_items (λ s t h. h.0) (λ s x t h. h) s)
 

@@ -1,5 +1,5 @@
-// Lines of numbers as bytes, put one after another into a lent text. A position goes in and the next comes back, as plain numbers, so that one
-// definition, `Put`, says what each function leaves.
+// Lines of numbers as bytes, put one after another into a lent text. A position goes in and the next comes back, as plain numbers, so that
+// one definition, `Put`, says what each function leaves.
 #![tactic(auto)]
 
 ghost use Rattle.std.specs.Prelude.{◌+◌, ◌-◌, ◌<◌, ◌≤◌, [], ◌∷◌, length};

@@ -23,8 +23,8 @@ listed c = ap (λ d. take d.count d.places) c.read-reading.ensures
 taken : (c : After-take-places) → YieldsList (take_steps fronts) (λ y. y.now) c.take-places.result (places_on c.args.sheet.now)
 taken c =
     let read = c.read-reading.result in
-    rw (listed c) at
-    (YieldsList-from_take read.count (YieldsList-at c.take-places.ensures.source (YieldsList-from_slice read.places c.iter.ensures.rest)) c.take-places.ensures.count)
+    let all = YieldsList-at c.take-places.ensures.source (YieldsList-from_slice read.places c.iter.ensures.rest) in
+    rw (listed c) at (YieldsList-from_take read.count all c.take-places.ensures.count)
 
 pub put_line-requires-clause-room : goal.put_line-requires-clause-room
 put_line-requires-clause-room c =

@@ -24,4 +24,5 @@ put_number-requires-2 c =
 
 pub returns : goal.returns
 returns c =
-    rw (next_in_line (c.args.at - c.args.from) c.args.x (λ z. omega arith)) (put_then (omega arith) c.put_byte-next.ensures c.put_number-2.ensures)
+    let both = put_then (omega arith) c.put_byte-next.ensures c.put_number-2.ensures in
+    rw (next_in_line (c.args.at - c.args.from) c.args.x (λ z. omega arith)) both

@@ -12,22 +12,31 @@ loop-x-init g c = (search rules, search rules, put_none c.args.at c.args.text.no
 pub put_in_line-end-requires : goal.put_in_line-end-requires
 put_in_line-end-requires g c =
     let l = c.loop-x in
-    let fits = room_for_one g.I.Iterator.next_gives c.into_iter-x-iterator.ensures.into_iter_gives l.yielded l.x-iterator l.yielded_by c.requires.room l.invariant.2 c.in-Some.x _ c.in-Some.ensures.steps in
+    let is = c.into_iter-x-iterator.ensures.into_iter_gives in
+    let n = c.in-Some in
+    let fits = room_for_one g.I.Iterator.next_gives is l.yielded l.x-iterator l.yielded_by c.requires.room l.invariant.2 n.x _ n.ensures.steps in
     omega arith
 
 pub loop-x-preserved : goal.loop-x-preserved
 loop-x-preserved g c =
     let l = c.loop-x in
-    let more = one_put g.I.Iterator.next_gives c.into_iter-x-iterator.ensures.into_iter_gives l.yielded l.x-iterator l.yielded_by c.requires.room l.invariant.2 c.in-Some.x _ c.in-Some.ensures.steps c.put_in_line-end.ensures in
-    (search rules, search rules, more)
+    let is = c.into_iter-x-iterator.ensures.into_iter_gives in
+    let n = c.in-Some in
+    let room = c.requires.room in
+    let one = one_put g.I.Iterator.next_gives is l.yielded l.x-iterator l.yielded_by room l.invariant.2 n.x _ n.ensures.steps in
+    (search rules, search rules, one c.put_in_line-end.ensures)
 
 pub put_byte-requires : goal.put_byte-requires
 put_byte-requires g c =
     let l = c.loop-x in
-    let fits = room_for_end g.I.Iterator.next_gives c.into_iter-x-iterator.ensures.into_iter_gives l.yielded l.x-iterator l.yielded_by c.requires.room l.invariant.2 _ c.in-None.ensures.steps in
+    let is = c.into_iter-x-iterator.ensures.into_iter_gives in
+    let step = c.in-None.ensures.steps in
+    let fits = room_for_end g.I.Iterator.next_gives is l.yielded l.x-iterator l.yielded_by c.requires.room l.invariant.2 _ step in
     omega arith
 
 pub returns : goal.returns
 returns g c =
     let l = c.loop-x in
-    line_put g.I.Iterator.next_gives c.into_iter-x-iterator.ensures.into_iter_gives l.yielded l.x-iterator l.yielded_by c.requires.room l.invariant.2 _ c.in-None.ensures.steps c.put_byte.ensures
+    let is = c.into_iter-x-iterator.ensures.into_iter_gives in
+    let step = c.in-None.ensures.steps in
+    line_put g.I.Iterator.next_gives is l.yielded l.x-iterator l.yielded_by c.requires.room l.invariant.2 _ step c.put_byte.ensures
