@@ -38,7 +38,8 @@ fn nodes4(words: &[u32], c: usize) -> u64
     left.min(right)
 }
 
-// The entry of place p, and the first of four places from p on.
+// The entry of place p, and the first of four places from p on. Apart from the nodes', since one function for both would take a reader as a
+// closure, and would state at each call which places this may read.
 fn leaf(words: &[u32], m: usize, p: usize) -> u64
     requires { LeafRun 1 m p words.now }
     ensures { result ≡ leaf_entry m words.now p }

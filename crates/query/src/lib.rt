@@ -24,7 +24,7 @@ pub enum Outcome {
 pub struct Asked {
     pub outcome: Outcome,
     pub count: u32,
-    // The goal, where one is found. It stands beside the outcome since document 01's found has no value, and a round's record carries it so.
+    // The goal, where one is found. It stands here since document 01's found has no value, and a round's record carries the outcome so.
     pub place: u32,
 }
 
