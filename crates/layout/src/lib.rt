@@ -1,5 +1,6 @@
-// The work area: where its regions begin, what stands in them, and an arc in one word (specs/Regions.antt). Nobody else counts words. The words and the
-// count of places are two parameters: a struct of both would hold a `&mut`, and each contract would have to say that it still holds the same one.
+// The work area: where its regions begin, what stands in them, and an arc in one word (specs/Regions.antt). Nobody else counts words.
+// The words and the count of places are two parameters: a struct of both would hold a `&mut`, and each contract would have to say that it
+// still holds the same one.
 #![tactic(auto)]
 
 ghost use Rattle.std.specs.Prelude.{◌≡◌, not, ◌≤◌, ◌<◌, eqb, length};

@@ -1,5 +1,5 @@
-// The records of a map, put into the output area one after another. A function takes the area and where it puts, and gives back where it ends: a
-// struct of both would hold a `&mut`, and each contract would have to say that it still holds the same one.
+// The records of a map, put into the output area one after another. A function takes the area and where it puts, and gives back where it
+// ends: a struct of both would hold a `&mut`, and each contract would have to say that it still holds the same one.
 #![tactic(auto)]
 
 ghost use Rattle.std.specs.Prelude.{ℕ, ◌≡◌, ◌++◌, ◌+◌, ◌^◌, ◌<◌, ◌≤◌, length};
