@@ -4,6 +4,7 @@
 mod factors;
 mod goals;
 mod marks;
+mod said;
 mod survey;
 mod verdict;
 mod waits;

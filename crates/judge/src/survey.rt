@@ -8,9 +8,10 @@ ghost use Rattle.judge.specs.Survey.{with_head, with_lane, with_wait, with_facto
 ghost use Rattle.judge.specs.Survey.{at_end, Counted, Noted, Surveyed};
 
 use crate::marks;
+use crate::said::Said;
+use map::Map;
 use map::record::{Item, JobFields, PlaceValue, Size};
 use map::refusal::Refusal;
-use map::{Map, record};
 
 #[derive(Clone, Copy)]
 pub struct Survey {
@@ -309,19 +310,14 @@ pub fn of(input: &[u8], marks: &mut [u8; Map::PLACES]) -> Survey
             goals_at: 0,
         },
     };
-    let mut at: usize = 0;
-    loop {
-        match record::read_at(input, at) {
-            Some(Ok(r)) => {
-                let item = record::item_of(input, r);
-                s = with_item(s, item, marks);
-                at = record::end_of(r, item);
-            }
-            Some(Err(refusal)) => {
+    for said in Said::of(input) {
+        match said {
+            Ok(item) => s = with_item(s, item, marks),
+            Err(refusal) => {
                 s.refusal = Some(refusal);
                 return s;
             }
-            None => return ended(s),
         }
     }
+    ended(s)
 }
