@@ -26,7 +26,7 @@ pub struct Survey {
     // The records that state factors, and where the factors of the first begin, if there is one.
     pub tables: usize,
     pub factors_at: Option<usize>,
-    // The records that state a default, and what the first states, 0 where there is none.
+    // The records that state a default, and what the first states, or 0, the estimate that holds where there is none.
     pub defaults: usize,
     pub default: u32,
     pub jobs: usize,

@@ -73,6 +73,7 @@ pub struct Site {
     pub growth: u32,
 }
 
+// What is asked of a site is said at each function: with an invariant (a Model) the fields, which five crates read, would be read through a view.
 impl Site {
     // The words of the work area that document 01 asks for.
     pub fn words(self) -> usize
