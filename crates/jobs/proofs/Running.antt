@@ -2,11 +2,10 @@
 use mathlib.Core.Path.{◌≡◌, refl, sym, ap, ◌∙◌}
 use mathlib.Core.List.Memᴰ
 use mathlib.Core.List.{List, [], ◌∷◌, ◌++◌, append-nil, Memᴰ}
-use Prim.Native.Nat.{ℕ, ◌+◌, ◌-◌, ◌≤◌}
+use Prim.Native.Nat.{ℕ, ◌+◌, ◌≤◌}
 use native.Mathlib.Omega.{arith}
 use lib.ListN.{length, take, length-append}
 use lib.Seq.{append_snoc}
-use borrow.Author.Tests.{eq-eqb}
 use Rattle.model.specs.Answer as model
 use Rattle.model.specs.Answer.{Result, answer, refused_with}
 use Rattle.model.specs.Bytes.{Bytes}
@@ -16,8 +15,8 @@ use Rattle.std.specs.Prelude.{Some, None, Ok, Err}
 use Rattle.map.specs.declared.refusal.Refusal.{Refusal}
 use Rattle.map.specs.Refusals.{number_of}
 use Rattle.map.proofs.Records.{frame_broken}
-use Rattle.map.specs.Records.{Read, read_at, record_in}
-use Rattle.map.specs.Walks.{Position, NextReads}
+use Rattle.map.specs.Records.{read_at, record_in}
+use Rattle.map.specs.Walks.{Position}
 use Rattle.map.proofs.Records.{frame_whole}
 use Rattle.answer.specs.declared.Answer.{Answer}
 use Rattle.answer.specs.Numbers.{answer_of}

@@ -49,29 +49,29 @@ none_left_out input at old = fixed_left_out _ (rw (fixed_table input)) at old
 
 -- Another one is the map's own: eight factors of the input, put as they stand there.
 module _ (input : List ℕ) (from : ℕ) (lies : from + factors_bytes ≤ length input) (differs : same_numbers (table_at input (Some from)) fixed_factors ≡ false)
-    where
-  abbrev factor_bytes : List ℕ
-  factor_bytes = take (from + factors_bytes - from) (drop from input)
+  where
+    abbrev factor_bytes : List ℕ
+    factor_bytes = take (from + factors_bytes - from) (drop from input)
 
-  pub factor_bytes_length : length factor_bytes ≡ factors_bytes
-  factor_bytes_length = simp (length-take, length-drop) (omega (arith, lies))
+    pub factor_bytes_length : length factor_bytes ≡ factors_bytes
+    factor_bytes_length = simp (length-take, length-drop) (omega (arith, lies))
 
-  pub table-length : length (put_table (table_at input (Some from))) ≡ 4 + factors_bytes
-  unfolding put_table put_factors put_record put16
-  table-length =
-      rw differs
-      (omega (arith, put16s-length (table_at input (Some from)), ap length (own_table input from), u16s-length 8 input from))
+    pub table-length : length (put_table (table_at input (Some from))) ≡ 4 + factors_bytes
+    unfolding put_table put_factors put_record put16
+    table-length =
+        rw differs
+        (omega (arith, put16s-length (table_at input (Some from)), ap length (own_table input from), u16s-length 8 input from))
 
-  table_text : Bytes input → put_table (table_at input (Some from)) ≡ (put16 factors_bytes ++ put16 factors_kind) ++ factor_bytes
-  unfolding put_table put_factors put_record put16
-  table_text B =
-      let factors = u16s 8 input from in
-      let size : length (put16s factors) ≡ factors_bytes = omega (arith, put16s-length factors, u16s-length 8 input from) in
-      let count : 2 * 8 ≡ from + factors_bytes - from = omega arith in
-      let bytes = put16s_u16s 8 input from B (omega (arith, lies)) ∙ ap (λ (k : ℕ). take k (drop from input)) count in
-      rw (differs, own_table input from, size, bytes)
+    table_text : Bytes input → put_table (table_at input (Some from)) ≡ (put16 factors_bytes ++ put16 factors_kind) ++ factor_bytes
+    unfolding put_table put_factors put_record put16
+    table_text B =
+        let factors = u16s 8 input from in
+        let size : length (put16s factors) ≡ factors_bytes = omega (arith, put16s-length factors, u16s-length 8 input from) in
+        let count : 2 * 8 ≡ from + factors_bytes - from = omega arith in
+        let bytes = put16s_u16s 8 input from B (omega (arith, lies)) ∙ ap (λ (k : ℕ). take k (drop from input)) count in
+        rw (differs, own_table input from, size, bytes)
 
-  pub table_fields : (at : ℕ) (old : List ℕ) {r : ℕ} {mid out : List ℕ} → Bytes input
-      → Put (put16 factors_bytes ++ put16 factors_kind) at old mid r → out ≡ sets mid r factor_bytes
-      → Put (put_table (table_at input (Some from))) at old out (r + factors_bytes)
-  table_fields at old B header e = put_is (put_next factor_bytes header e refl (omega (arith, factor_bytes_length))) (table_text B)
+    pub table_fields : (at : ℕ) (old : List ℕ) {r : ℕ} {mid out : List ℕ} → Bytes input
+        → Put (put16 factors_bytes ++ put16 factors_kind) at old mid r → out ≡ sets mid r factor_bytes
+        → Put (put_table (table_at input (Some from))) at old out (r + factors_bytes)
+    table_fields at old B header e = put_is (put_next factor_bytes header e refl (omega (arith, factor_bytes_length))) (table_text B)

@@ -61,7 +61,11 @@ fn put_day(text: &mut [u8], day: Day) -> usize
 {
     match day.status {
         Status::TooLong => text::put_bytes(text, 0, b"too long\n"),
-        Status::ShortTally => text::put_line(text, 0, iter::once(u64::from(Refusal::ShortSheet.number()))),
+        Status::ShortTally => text::put_line(
+            text,
+            0,
+            iter::once(u64::from(Refusal::ShortSheet.number())),
+        ),
         Status::Reported => {
             let end = put_counts(text, &day.counts);
             put_figures(text, end, day)

@@ -11,7 +11,7 @@ use Rattle.judge.specs.Judge.{Judged}
 use Rattle.judge.proofs.Passing.{refused_first, passes}
 use Rattle.map.specs.declared.Job.{Job}
 use Rattle.map.specs.declared.refusal.Refusal.{Refusal}
-use Rattle.map.specs.Refusals.{number_of, refusal_number}
+use Rattle.map.specs.Refusals.{number_of}
 use Rattle.map.proofs.RefusalLaws.{number_within}
 use Rattle.model.specs.Answer.{answer}
 use Rattle.model.specs.Framing.{frame}

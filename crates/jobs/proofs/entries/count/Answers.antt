@@ -1,4 +1,4 @@
-use mathlib.Core.Path.{◌≡◌, sym, ◌∙◌}
+use mathlib.Core.Path.{◌∙◌}
 use native.Mathlib.Omega.{arith}
 use Rattle.jobs.proofs.EntryLaws.{map_inside, at_step, count_begins, count_goes_on, count_ends}
 use Rattle.jobs.proofs.entries.count.Goals as goal

@@ -1,5 +1,5 @@
-use mathlib.Core.Path.{◌≡◌, ap, ◌∙◌}
-use Rattle.std.specs.Prelude.{Some, Ok}
+use mathlib.Core.Path.{ap, ◌∙◌}
+use Rattle.std.specs.Prelude.{Some}
 use Rattle.jobs.proofs.EntryLaws.{map-begins, map_broken, map_ends, map_ends_at_job, map_goes_on}
 use Rattle.jobs.proofs.entries.map_bytes.Goals as goal
 

@@ -1,5 +1,5 @@
 -- `verdict::judge` meets its contract: one law for each answer.
-use mathlib.Core.Path.{◌≡◌, sym, ◌∙◌}
+use mathlib.Core.Path.{sym, ◌∙◌}
 use native.Mathlib.Omega.{arith}
 use borrow.Author.Tests.{ltb-true, ltb-false}
 use Rattle.judge.proofs.MarkLaws.{zeros_clear}

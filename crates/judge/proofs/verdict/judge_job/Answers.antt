@@ -1,5 +1,5 @@
 -- `verdict::judge_job` meets its contract: one law for each answer.
-use mathlib.Core.Path.{refl, sym}
+use mathlib.Core.Path.{refl}
 use Rattle.std.proofs.lemmas.Result.{err_from_is_err_and}
 use Rattle.judge.proofs.JudgeJob.{goals_refused, accepted}
 use Rattle.judge.proofs.verdict.judge_job.Goals as goal
