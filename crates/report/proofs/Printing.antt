@@ -9,8 +9,6 @@ use lib.Dec.{ltb}
 use lib.ListN.{length, replicate, length-replicate}
 use borrow.Author.Tests.{le-ltb}
 use Rattle.model.specs.Limits.{max_places}
-use Rattle.text.specs.Text.{Put}
-use Rattle.text.proofs.Puts.{put_then, front_within, put_front}
 use Rattle.tally.specs.declared.Tally.{Tally}
 use Rattle.jobs.specs.declared.Day.{Day}
 use Rattle.jobs.specs.declared.Status.{Status}
@@ -19,7 +17,7 @@ use Rattle.jobs.specs.Entries.{entries}
 use Rattle.jobs.specs.Figures.{results}
 use Rattle.day.specs.Host.{status_number}
 use Rattle.jobs.specs.Report.{too_long, figures, without, DayResult, unchanged, after_jobs, report, Reports}
-use Rattle.report.specs.Printed.{goal_line, goal_lines, day_text, goals_text, text_of, no_tally, reported, printed, Prints, PutWithin}
+use Rattle.report.specs.Printed.{goal_line, goal_lines, day_text, goals_text, text_of, no_tally, reported, PutWithin}
 
 -- goals that no route ends at have no lines
 no_lines : (n : ℕ) → goal_lines (replicate n no_tally) ≡ []
@@ -71,18 +69,14 @@ never_short input = not_short input _ _ _ (let long = length-replicate max_place
 
 -- the day's text, and after it the lines of the tally that the report left, are all its text
 pub all_put : {input work sheet : List ℕ} {tally : List Tally} {d : Day} {work' sheet' : List ℕ} {tally' : List Tally} {old mid text : List ℕ}
-    {room at r : ℕ} (n : ℕ) → tally ≡ replicate n no_tally → Reports input work sheet tally d work' sheet' tally'
-    → PutWithin room (day_text d.status d) 0 old mid at → Put (goal_lines tally') at mid text r
-    → Put (text_of (report input work sheet (replicate n no_tally))) 0 old text r
+    {room : ℕ} (n : ℕ) → tally ≡ replicate n no_tally → Reports input work sheet tally d work' sheet' tally'
+    → old ≡ [] → PutWithin room (day_text d.status d) old mid → text ≡ mid ++ goal_lines tally'
+    → text ≡ text_of (report input work sheet (replicate n no_tally))
 unfolding text_of
-all_put {input} {work} {sheet} {tally} {d} {work'} {sheet'} {tally'} {old} {mid} {text} {room} {at} {r} n are told day-put goals_put =
+all_put {input} {work} {sheet} {tally} {d} {work'} {sheet'} {tally'} {old} {mid} {text} {room} n are told empty day-put goals_put =
     let none = subst (λ (ts : List Tally). goal_lines ts ≡ []) (sym are) (no_lines n) in
     let lines : goal_lines tally' ≡ goals_text d.status tally'
     = subst LinesPrinted (sym told.result) (lines_printed input work sheet tally none) in
-    subst (λ (new : List ℕ). Put new 0 old text r)
-    (ap (λ (g : List ℕ). day_text d.status d ++ g) lines ∙ ap text_of (told.result ∙ ap (report input work sheet) are))
-    (put_then (omega arith) day-put.put goals_put)
-
--- what is printed, put at the front of a text, is its first bytes
-pub prints : {input old text : List ℕ} {r : ℕ} → Put (printed input) 0 old text r → Prints input text r
-prints p = record { within = front_within p; bytes = put_front p }
+    let front : mid ≡ day_text d.status d = day-put.put ∙ ap (λ (t : List ℕ). t ++ day_text d.status d) empty in
+    goals_put ∙ ap (λ (t : List ℕ). t ++ goal_lines tally') front ∙ ap (λ (g : List ℕ). day_text d.status d ++ g) lines
+    ∙ ap text_of (told.result ∙ ap (report input work sheet) are)

@@ -1,9 +1,9 @@
 -- What program `report` prints. Document 02, paper 6: "Lines printed, numbers parted by one blank: each answer number that occurred and its count, rising,
 -- a line each; then one line of total cost, largest cost, total expansions, 0 where there is none; then a line of goal, routes, cost for each goal
 -- reached, rising. More than 1,000 records after the map …, or more than 65,536 bytes, prints `too long`."
-use Rattle.std.specs.Prelude.{◌≡◌, cond, List, [], ◌∷◌, ◌++◌, ℕ, suc, ◌+◌, ◌*◌, ◌≤◌, eqb, length, take, replicate}
+use Rattle.std.specs.Prelude.{◌≡◌, cond, List, [], ◌∷◌, ◌++◌, ℕ, suc, ◌+◌, ◌*◌, ◌≤◌, eqb, length, replicate}
 use Rattle.model.specs.Limits.{max_places}
-use Rattle.text.specs.Text.{line, too_long, Put}
+use Rattle.text.specs.Text.{line, too_long}
 use Rattle.tally.specs.declared.Tally.{Tally}
 use Rattle.tally.specs.Tallied.{tally_with}
 use Rattle.jobs.specs.declared.Day.{Day}
@@ -55,15 +55,14 @@ reported input = report input (replicate 16384 0) (replicate 8202 0) (replicate 
 unfoldable pub printed : List ℕ → List ℕ
 printed input = text_of (reported input)
 
--- The first r bytes of a text are what is printed of the input.
-pub record Prints (input text : List ℕ) (r : ℕ) : Type 0 where
-  pub within : r ≤ length text
-  pub bytes : take r text ≡ printed input
+-- The text is what is printed of the input.
+abbrev pub Prints : (input text : List ℕ) → Type 0
+Prints input text = text ≡ printed input
 
--- Bytes are put at a position, and are no more than this many.
-pub record PutWithin (room : ℕ) (new : List ℕ) (at : ℕ) (old text : List ℕ) (r : ℕ) : Type 0 where
-  pub put : Put new at old text r
-  pub short : r ≤ at + room
+-- Bytes are put after a text, and are no more than this many.
+pub record PutWithin (room : ℕ) (new old text : List ℕ) : Type 0 where
+  pub put : text ≡ old ++ new
+  pub short : length text ≤ length old + room
 
 -- how many bytes a line may take that has a number and its count, and one that has three numbers of 64 bits: 11 and 21 a number, and 1 more
 abbrev pub count_room : ℕ

@@ -1,13 +1,12 @@
--- The lines of a result, and what a text whose front they are prints. Assumes nothing.
-use mathlib.Core.Path.{◌≡◌, ◌∙◌}
+-- The lines of a result, and what is printed of an input. Assumes nothing.
+use mathlib.Core.Path.{◌≡◌, refl}
 use mathlib.Core.List.{List, ◌++◌, append-nil}
 use Prim.Native.Nat.{ℕ, ◌≤◌, ◌<◌}
 use lib.ListN.{length, take}
 use borrow.Author.Tests.{lt-ltb, le-ltb, eq-eqb, ne_eqb}
 use Rattle.model.specs.Answer.{Result}
-use Rattle.text.specs.Text.{line, too_long, Put}
-use Rattle.text.proofs.Puts.{front_within, put_front}
-use Rattle.route.specs.Printed.{six, places_on, text_of, answered, printed, Prints}
+use Rattle.text.specs.Text.{line, too_long}
+use Rattle.route.specs.Printed.{six, places_on, text_of, answered, printed}
 
 pub one_line : (r : Result) → (r.answer.number ≡ 0 → ⊥) → text_of r ≡ line (six r.answer)
 unfolding text_of
@@ -18,14 +17,11 @@ pub two_lines : (r : Result) → r.answer.number ≡ 0
 unfolding text_of
 two_lines r h = rw (eq-eqb r.answer.number 0 h)
 
--- what is printed, put at the front of a text, is its first bytes
-prints : {input new old text : List ℕ} {r : ℕ} → new ≡ printed input → Put new 0 old text r → Prints input text r
-prints is p = record { within = front_within p; bytes = put_front p ∙ is }
-
-pub prints_too_long : {input old text : List ℕ} {r : ℕ} → 65536 < length input → Put too_long 0 old text r → Prints input text r
+-- what is printed of an input that is longer, and of any other
+pub printed_long : (input : List ℕ) → 65536 < length input → printed input ≡ too_long
 unfolding printed
-prints_too_long {input} h p = prints (rw (lt-ltb 65536 (length input) h)) p
+printed_long input h = rw (lt-ltb 65536 (length input) h) refl
 
-pub prints_answer : {input old text : List ℕ} {r : ℕ} → length input ≤ 65536 → Put (text_of (answered input)) 0 old text r → Prints input text r
+pub printed_answer : (input : List ℕ) → length input ≤ 65536 → printed input ≡ text_of (answered input)
 unfolding printed
-prints_answer {input} h p = prints (rw (le-ltb 65536 (length input) h)) p
+printed_answer input h = rw (le-ltb 65536 (length input) h) refl

@@ -2,8 +2,9 @@
 -- floor, expansions, queries; for 0 line two is the places."
 use Rattle.std.specs.Prelude.{◌≡◌, cond, List, [], ◌∷◌, ◌++◌, ℕ, ◌+◌, ◌*◌, ◌≤◌, ltb, eqb, length, take, replicate}
 use Rattle.sheet_reader.specs.Sheets.{read_sheet}
+use Rattle.model.specs.Limits.{max_places}
 use Rattle.model.specs.Answer.{Answer, Result, route}
-use Rattle.text.specs.Text.{line, too_long, Put}
+use Rattle.text.specs.Text.{line, too_long}
 
 -- the numbers of line one
 abbrev pub six : Answer → List ℕ
@@ -26,12 +27,15 @@ answered input = route input (replicate 16384 0) (replicate 8202 0)
 unfoldable pub printed : List ℕ → List ℕ
 printed input = cond (ltb 65536 (length input)) too_long (text_of (answered input))
 
--- The first r bytes of a text are what is printed of the input.
-pub record Prints (input text : List ℕ) (r : ℕ) : Type 0 where
-  pub within : r ≤ length text
-  pub bytes : take r text ≡ printed input
+-- The text is what is printed of the input.
+abbrev pub Prints : (input text : List ℕ) → Type 0
+Prints input text = text ≡ printed input
 
--- Line one is put at the front of a text; it takes at most 11 bytes a number and 1 more.
-pub record LineOne (a : Answer) (old text : List ℕ) (r : ℕ) : Type 0 where
-  pub put : Put (line (six a)) 0 old text r
-  pub short : r ≤ 11 * 6 + 1
+-- Line one is put after a text; it takes at most 11 bytes a number and 1 more.
+pub record LineOne (a : Answer) (old text : List ℕ) : Type 0 where
+  pub put : text ≡ old ++ line (six a)
+  pub short : length text ≤ length old + 11 * 6 + 1
+
+-- how many bytes both lines may take
+abbrev pub text_room : ℕ
+text_room = 11 * 6 + 1 + 11 * max_places + 1

@@ -1,5 +1,4 @@
--- Laws of numbers as text and of putting bytes into a text.
+-- Laws of numbers as text.
 pub mod Decimals
 pub mod Lines
-pub mod Puts
 pub mod Examples

@@ -1,5 +1,5 @@
 -- Numbers parted by blanks: one more number, lines put number by number, and how long a line is at most. Assumes nothing.
-use mathlib.Core.Path.{◌≡◌, refl, sym, subst, ◌∙◌}
+use mathlib.Core.Path.{◌≡◌, refl, sym, ap, subst, ◌∙◌}
 use mathlib.Core.List.{List, [], ◌∷◌, ◌++◌, append_assoc, map-id}
 use Prim.Native.Nat.{ℕ, zero, suc, ◌+◌, ◌-◌, ◌*◌, ◌^◌, ◌≤◌, ◌<◌}
 use native.Mathlib.Omega.{arith}
@@ -16,9 +16,8 @@ use Rattle.std.specs.Iterator.Runs.{EachRunFrom, WholeRun}
 use Rattle.std.proofs.iter.runs.Made.{run_of_turn, run_of_exit, runs_from_along, took}
 use Rattle.std.proofs.lemmas.Iterator.{YieldsList, items_from_drains, maps, YieldsList-from_map}
 use Rattle.std.proofs.lemmas.Iterator.Consumers.{YieldsList-so_far, YieldsList-from_shown}
-use Rattle.text.specs.Text.{blank, line_feed, decimal, parted, in_line, line, Put}
+use Rattle.text.specs.Text.{blank, line_feed, decimal, parted, in_line, line}
 use Rattle.text.proofs.Decimals.{Short, short_32, short_64, decimal_some}
-use Rattle.text.proofs.Puts.{put_then}
 
 -- a number after others has a blank before it
 parted_after : (x : ℕ) (xs : List ℕ) (y : ℕ) → parted ((x ∷ xs) ++ (y ∷ [])) ≡ parted (x ∷ xs) ++ (blank ∷ decimal y)
@@ -36,6 +35,10 @@ unfolding in_line
 next_in_line zero x e = absurd (e refl)
 next_in_line (suc i) x e = refl
 
+-- a blank and then a number are put as one
+pub blank_then : (x : ℕ) (old : List ℕ) {mid text : List ℕ} → mid ≡ old ++ (blank ∷ []) → text ≡ mid ++ decimal x → text ≡ old ++ (blank ∷ decimal x)
+blank_then x old p q = q ∙ ap (λ (t : List ℕ). t ++ decimal x) p ∙ append_assoc old (blank ∷ []) (decimal x)
+
 parted_some : (x : ℕ) (xs : List ℕ) → 0 < length (parted (x ∷ xs))
 unfolding parted
 parted_some x [] = decimal_some x
@@ -48,44 +51,47 @@ parted_more [] i x e = sym (first_in_line i x e)
 parted_more (y ∷ ys) i x e =
     rw (next_in_line i x (λ z. omega (arith, parted_some y ys))) (parted_after y ys x)
 
--- Each run of an iterator has room for its line in a text, at a position.
-abbrev pub RoomForRuns : {S : Type 0} → (S → Option ℕ → S → Type 0) → S → (at : ℕ) (text : List ℕ) → Type 0
-RoomForRuns steps s at text = EachRunFrom steps s (λ p. at + length (line p.items) ≤ length text)
+-- Each run of an iterator has room for its line, after so many bytes.
+abbrev pub RoomForRuns : {S : Type 0} → (S → Option ℕ → S → Type 0) → S → (at size : ℕ) → Type 0
+RoomForRuns steps s at size = EachRunFrom steps s (λ p. at + length (line p.items) ≤ size)
 
--- A line whose numbers come one by one from an iterator: xs so far, which are put.
+-- A line whose numbers come one by one from an iterator: xs so far, which stand after the old text.
 module _ {S : Type 0} (steps : S → Option ℕ → S → Type 0) {numbers s : S} (is : s ≡ numbers) (xs : List ℕ) (t : S) (came : Yields steps s xs t)
-    {at end : ℕ} {old text : List ℕ} (room : RoomForRuns steps numbers at old) (put : Put (parted xs) at old text end) where
+    {from size : ℕ} (old : List ℕ) {text : List ℕ} (starts : from ≡ length old) (room : RoomForRuns steps numbers (length old) size)
+    (put : text ≡ old ++ parted xs) where
+  so_long : length text ≡ length old + length (parted xs)
+  so_long = ap length put ∙ length-append old (parted xs)
+
   -- there is room for one number more, and it is put after them
-  pub room_for_one : (x : ℕ) (u : S) → steps t (Some x) u → end + length (in_line (end - at) x) < length old
+  pub room_for_one : (x : ℕ) (u : S) → steps t (Some x) u → length text + length (in_line (length text - from) x) < size
   unfolding line
   room_for_one x u step =
       let run = run_of_turn steps s xs t came x u step in
-      let fits : at + length (line (xs ++ (x ∷ []))) ≤ length old = rw run.2.0 at (room run.0 run.0.seen (run.1 ∙ is)) in
-      let more : length (parted (xs ++ (x ∷ []))) ≡ length (parted xs) + length (in_line (end - at) x)
-      = rw (parted_more xs (end - at) x (omega arith), length-append) in
-      omega (arith, length-append (parted (xs ++ (x ∷ []))) (line_feed ∷ []))
+      let fits : length old + length (line (xs ++ (x ∷ []))) ≤ size = rw run.2.0 at (room run.0 run.0.seen (run.1 ∙ is)) in
+      let more : length (parted (xs ++ (x ∷ []))) ≡ length (parted xs) + length (in_line (length text - from) x)
+      = rw (parted_more xs (length text - from) x (omega (arith, so_long)), length-append) in
+      omega (arith, so_long, length-append (parted (xs ++ (x ∷ []))) (line_feed ∷ []))
 
-  pub one_put : (x : ℕ) (u : S) {new : List ℕ} {r : ℕ} → steps t (Some x) u → Put (in_line (end - at) x) end text new r
-      → Put (parted (xs ++ (x ∷ []))) at old new r
-  one_put x u step more =
-      let within = room_for_one x u step in
-      rw (parted_more xs (end - at) x (omega arith)) (put_then (omega arith) put more)
+  pub one_put : (x : ℕ) {new : List ℕ} → new ≡ text ++ in_line (length text - from) x → new ≡ old ++ parted (xs ++ (x ∷ []))
+  one_put x more =
+      rw (parted_more xs (length text - from) x (omega (arith, so_long)))
+      (more ∙ ap (λ (t : List ℕ). t ++ in_line (length text - from) x) put ∙ append_assoc old (parted xs) _)
 
   -- where no number more comes there is room for the line feed, and it ends the line
-  pub room_for_end : (u : S) → steps t None u → end < length old
+  pub room_for_end : (u : S) → steps t None u → length text < size
   unfolding line
   room_for_end u step =
       let run = run_of_exit steps s xs t came u step in
-      let fits : at + length (line xs) ≤ length old = rw run.3.0 at (room run.0 run.0.seen (run.1 ∙ is)) in
-      omega (arith, length-append (parted xs) (line_feed ∷ []))
+      let fits : length old + length (line xs) ≤ size = rw run.3.0 at (room run.0 run.0.seen (run.1 ∙ is)) in
+      omega (arith, so_long, length-append (parted xs) (line_feed ∷ []))
 
-  pub line_put : (u : S) {new : List ℕ} {r : ℕ} → steps t None u → Put (line_feed ∷ []) end text new r
-      → WholeRun steps numbers (λ p. Put (line p.items) at old new r)
+  pub line_put : (u : S) {new : List ℕ} → steps t None u → new ≡ text ++ (line_feed ∷ [])
+      → WholeRun steps numbers (λ p. new ≡ old ++ line p.items)
   unfolding line
   line_put u step more =
       let run = run_of_exit steps s xs t came u step in
-      let within = room_for_end u step in
-      (run.0, run.1 ∙ is, run.2, rw run.3.0 (put_then (omega arith) put more))
+      let whole = more ∙ ap (λ (t : List ℕ). t ++ (line_feed ∷ [])) put ∙ append_assoc old (parted xs) (line_feed ∷ []) in
+      (run.0, run.1 ∙ is, run.2, rw run.3.0 whole)
 
 -- each is below a bound
 abbrev pub Below : ℕ → List ℕ → Type 0
@@ -142,23 +148,23 @@ widened {xs = xs} g gives is wide = rw map-id at (YieldsList-from_map g (λ (x :
 
 module _ {S : Type 0} {steps : S → Option ℕ → S → Type 0} {s : S} {xs : List ℕ} (gives : YieldsList steps (λ x. x) s xs) where
   -- where there is room for their line, there is room for each run
-  pub room_for_runs : (at : ℕ) (old : List ℕ) → at + length (line xs) ≤ length old → RoomForRuns steps s at old
-  room_for_runs at old fits =
-      runs_from_along steps s (λ ys. at + length (line ys) ≤ length old) (λ ys t came.
+  pub room_for_runs : (at size : ℕ) → at + length (line xs) ≤ size → RoomForRuns steps s at size
+  room_for_runs at size fits =
+      runs_from_along steps s (λ ys. at + length (line ys) ≤ size) (λ ys t came.
       let same : ys ≡ take (length ys) xs = sym (map-id ys) ∙ YieldsList-so_far gives ys t came in
       let short : length (line ys) ≤ length (line xs) = rw same (fewer (length ys) xs) in
       omega arith)
 
   -- so there is in 11 bytes for each number of 32 bits, or in 21 for each of 64, and 1 byte more
-  pub room_for_narrow : Below (2 ^ 32) xs → (at : ℕ) (old : List ℕ) → at + 11 * length xs + 1 ≤ length old → RoomForRuns steps s at old
-  room_for_narrow small at old fits = let short = line-length xs small in room_for_runs at old (omega arith)
+  pub room_for_narrow : Below (2 ^ 32) xs → (at size : ℕ) → at + 11 * length xs + 1 ≤ size → RoomForRuns steps s at size
+  room_for_narrow small at size fits = let short = line-length xs small in room_for_runs at size (omega arith)
 
-  pub room_for_wide : Below (2 ^ 64) xs → (at : ℕ) (old : List ℕ) → at + 21 * length xs + 1 ≤ length old → RoomForRuns steps s at old
-  room_for_wide small at old fits = let short = wide_line_length xs small in room_for_runs at old (omega arith)
+  pub room_for_wide : Below (2 ^ 64) xs → (at size : ℕ) → at + 21 * length xs + 1 ≤ size → RoomForRuns steps s at size
+  room_for_wide small at size fits = let short = wide_line_length xs small in room_for_runs at size (omega arith)
 
   -- what a whole run put is their line
-  pub line_given : {at : ℕ} {old new : List ℕ} {r : ℕ} → WholeRun steps s (λ p. Put (line p.items) at old new r) → Put (line xs) at old new r
-  line_given put =
+  pub line_given : (old : List ℕ) {new : List ℕ} → WholeRun steps s (λ p. new ≡ old ++ line p.items) → new ≡ old ++ line xs
+  line_given old put =
       let run = took put.0 in
       let all : DrainsIf steps (Unit {0}) s put.0.items
       = (run.0, subst (λ (k : S). Yields steps k put.0.items run.0) put.1 run.1, λ _. run.2 put.2) in

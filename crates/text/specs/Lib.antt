@@ -1,2 +1,2 @@
--- What a line of numbers is, and what putting bytes into a text leaves.
+-- What a line of numbers is.
 pub mod Text

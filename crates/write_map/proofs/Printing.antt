@@ -1,4 +1,4 @@
--- What the writer's call gives the two streams, and what texts that have it at their fronts hold. Assumes nothing.
+-- What the writer's call gives the two streams, and what is printed of an input. Assumes nothing.
 use mathlib.Core.Path.{◌≡◌, refl, sym, ap, ◌∙◌}
 use mathlib.Core.List.{List, [], ◌∷◌}
 use Prim.Native.Nat.{ℕ, zero, suc, ◌≤◌, ◌<◌}
@@ -12,8 +12,7 @@ use Rattle.answer.specs.Numbers.{answer_of}
 use Rattle.answer.specs.declared.Answer.{Answer}
 use Rattle.map_writer.specs.Canonical.{write}
 use Rattle.map_writer.specs.Call.{written_with, write_if, write_map, Wrote}
-use Rattle.text.specs.Text.{line, too_long, Put}
-use Rattle.text.proofs.Puts.{front_within, put_front}
+use Rattle.text.specs.Text.{line, too_long}
 use Rattle.write_map.specs.Printed.{streams, streams_of, answered, printed}
 
 -- ---- What a result gives the streams
@@ -51,7 +50,7 @@ map-within : (input work output : List ℕ) → (write_map input work output).an
 unfolding write_map
 map-within input work output = if_within _ (stated_in input) work output
 
--- ---- What the texts hold
+-- ---- What is printed
 
 -- after the call, with an output area as long as the longest input
 module _ {input before work out : List ℕ} {a : Answer} (size : length before ≡ 65536)
@@ -65,15 +64,13 @@ module _ {input before work out : List ℕ} {a : Answer} (size : length before �
   pub map_front : a.number ≡ 0 → (a.sheet_bytes ≤ length out) × (streams (take a.sheet_bytes out) [] ≡ streams_of (answered input))
   map_front h = (rw (← wrote.result) at (map-within input (replicate 16384 0) before), sym (map-alone result h) ∙ given)
 
-  pub number_front : {old err : List ℕ} {r : ℕ} → (a.number ≡ 0 → ⊥) → Put (line (a.number ∷ [])) 0 old err r
-      → (r ≤ length err) × (streams [] (take r err) ≡ streams_of (answered input))
-  number_front h p = (front_within p, rw (put_front p) (sym (number_alone result h) ∙ given))
+  pub number_line : (a.number ≡ 0 → ⊥) → streams [] (line (a.number ∷ [])) ≡ streams_of (answered input)
+  number_line h = sym (number_alone result h) ∙ given
 
 -- for an input that is longer, and for any other
-pub too_long_front : (input : List ℕ) {old err : List ℕ} {r : ℕ} → 65536 < length input → Put too_long 0 old err r
-    → (r ≤ length err) × (streams [] (take r err) ≡ printed input)
+pub printed_long : (input : List ℕ) → 65536 < length input → printed input ≡ streams [] too_long
 unfolding printed
-too_long_front input h p = (front_within p, rw (lt-ltb 65536 (length input) h) (ap (streams []) (put_front p)))
+printed_long input h = rw (lt-ltb 65536 (length input) h) refl
 
 pub printed_answered : (input : List ℕ) → length input ≤ 65536 → printed input ≡ streams_of (answered input)
 unfolding printed

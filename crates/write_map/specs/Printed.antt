@@ -1,5 +1,6 @@
 -- What program `write_map` prints, and on which stream.
 use Rattle.std.specs.Prelude.{◌≡◌, cond, List, [], ◌∷◌, ℕ, ◌≤◌, ltb, eqb, length, take, replicate, Result as Counted, Ok, Err}
+use Rattle.arrayvec.specs.ArrayVec.{ArrayVec}
 use Rattle.model.specs.Answer.{Result}
 use Rattle.model.specs.Calls.{written}
 use Rattle.map_writer.specs.Call.{write_map}
@@ -25,7 +26,7 @@ answered input = write_map input (replicate 16384 0) (replicate 65536 0)
 unfoldable pub printed : List ℕ → Streams
 printed input = cond (ltb 65536 (length input)) (streams [] too_long) (streams_of (answered input))
 
--- One text begins with all that is to stand anywhere: `Ok` counts its bytes on standard output, and `Err` those on standard error.
-abbrev pub Holds : Streams → (out err : List ℕ) → Counted ℕ ℕ → Type 0
-Holds s out err (Ok n) = (n ≤ length out) × (streams (take n out) [] ≡ s)
-Holds s out err (Err n) = (n ≤ length err) × (streams [] (take n err) ≡ s)
+-- All that is to stand anywhere: `Ok` counts its bytes, on standard output, at the front of a text; `Err` has those on standard error.
+abbrev pub Holds : Streams → (out : List ℕ) → Counted ℕ (ArrayVec ℕ) → Type 0
+Holds s out (Ok n) = (n ≤ length out) × (streams (take n out) [] ≡ s)
+Holds s out (Err err) = streams [] err.items ≡ s

@@ -7,16 +7,16 @@ use Rattle.text.proofs.Lines.{room_for_narrow, line_given, widened, YieldsList-f
 use Rattle.report.proofs.Lines.{no_count, a_count}
 use Rattle.report.proofs.put_count.Goals as goal
 
-pub returns-then-count-eq0 : goal.returns-then-count-eq0
-returns-then-count-eq0 c = no_count _ _ c.if-count-eq0.true
+pub returns-else-count-ne0 : goal.returns-else-count-ne0
+returns-else-count-ne0 c = no_count _ _ c.if-count-ne0.false
 
-pub put_line-requires-clause-room : goal.put_line-requires-clause-room
-put_line-requires-clause-room c =
+pub put_line-requires : goal.put_line-requires
+put_line-requires c =
     let xs = c.args.number ∷ c.args.count ∷ [] in
-    room_for_narrow (widened _ (YieldsList-from_array xs cc) c.map.ensures.closure (λ x r q k. search (rules, tests))) (search rules) _ _ (omega arith)
+    (search rules, (search rules, (search rules, room_for_narrow (widened _ (YieldsList-from_array xs cc) c.map.ensures.closure (λ x r q k. search (rules, tests))) (search rules) _ _ (omega arith))))
 
-pub returns : goal.returns
-returns c =
+pub returns-then-count-ne0 : goal.returns-then-count-ne0
+returns-then-count-ne0 c =
     let xs = c.args.number ∷ c.args.count ∷ [] in
-    let put = line_given (widened _ (YieldsList-from_array xs cc) c.map.ensures.closure (λ x r q k. search (rules, tests))) c.put_line.ensures in
-    a_count _ _ c.if-count-eq0.false (search rules) (search rules) put
+    let put = line_given (widened _ (YieldsList-from_array xs cc) c.map.ensures.closure (λ x r q k. search (rules, tests))) _ c.put_line.ensures in
+    a_count _ _ _ c.if-count-ne0.true (search rules) (search rules) put

@@ -5,4 +5,4 @@ pub loop-n-init : goal.loop-n-init
 loop-n-init c = no_counts _
 
 pub loop-n-preserved : goal.loop-n-preserved
-loop-n-preserved c = one_count_more c.args.counts.now c.loop-n-test.true c.loop-n.invariant c.put_count-end.ensures
+loop-n-preserved c = one_count_more c.args.counts.now c.loop-n-test.true c.loop-n.invariant c.put_count.ensures

@@ -6,13 +6,13 @@ use Rattle.text.proofs.Lines.{room_for_wide, line_given, YieldsList-from_array}
 use Rattle.report.proofs.Lines.{figures}
 use Rattle.report.proofs.put_figures.Goals as goal
 
-pub put_line-requires-clause-room : goal.put_line-requires-clause-room
-put_line-requires-clause-room c =
+pub put_line-requires : goal.put_line-requires
+put_line-requires c =
     let d = c.args.day in
     let xs = d.cost ∷ d.largest ∷ d.expansions ∷ [] in
-    room_for_wide (YieldsList-from_array xs cc) (search rules) _ _ (omega arith)
+    (search rules, (search rules, (search rules, room_for_wide (YieldsList-from_array xs cc) (search rules) _ _ (omega arith))))
 
 pub returns : goal.returns
 returns c =
     let d = c.args.day in
-    figures d (search rules) (line_given (YieldsList-from_array (d.cost ∷ d.largest ∷ d.expansions ∷ []) cc) c.put_line.ensures)
+    figures d _ (search rules) (line_given (YieldsList-from_array (d.cost ∷ d.largest ∷ d.expansions ∷ []) cc) _ c.put_line.ensures)

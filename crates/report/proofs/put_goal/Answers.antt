@@ -6,16 +6,16 @@ use Rattle.text.proofs.Lines.{room_for_wide, line_given, YieldsList-from_array}
 use Rattle.report.proofs.Lines.{no_goal, a_goal}
 use Rattle.report.proofs.put_goal.Goals as goal
 
-pub returns-then-t-eq0 : goal.returns-then-t-eq0
-returns-then-t-eq0 c = no_goal _ c.if-t-eq0.true
+pub returns-else-t-ne0 : goal.returns-else-t-ne0
+returns-else-t-ne0 c = no_goal _ c.if-t-ne0.false
 
-pub put_line-requires-clause-room : goal.put_line-requires-clause-room
-put_line-requires-clause-room c =
+pub put_line-requires : goal.put_line-requires
+put_line-requires c =
     let t = c.args.t in
     let xs = t.goal ∷ t.routes ∷ t.cost ∷ [] in
-    room_for_wide (YieldsList-from_array xs cc) (search rules) _ _ (omega arith)
+    (search rules, (search rules, (search rules, room_for_wide (YieldsList-from_array xs cc) (search rules) _ _ (omega arith))))
 
-pub returns : goal.returns
-returns c =
+pub returns-then-t-ne0 : goal.returns-then-t-ne0
+returns-then-t-ne0 c =
     let t = c.args.t in
-    a_goal t c.if-t-eq0.false (search rules) (line_given (YieldsList-from_array (t.goal ∷ t.routes ∷ t.cost ∷ []) cc) c.put_line.ensures)
+    a_goal t _ c.if-t-ne0.true (search rules) (line_given (YieldsList-from_array (t.goal ∷ t.routes ∷ t.cost ∷ []) cc) _ c.put_line.ensures)

@@ -4,4 +4,4 @@ use Rattle.report.specs.Printed.{goal_lines, PutWithin, wide_room}
 use Rattle.report.proofs.put_goals.Given as goal
 
 abbrev pub invariant-loop-t : goal.invariant-loop-t
-invariant-loop-t l = PutWithin (wide_room * l.t-index) (goal_lines (take l.t-index l.tally)) l.at l.initial.text l.text l.end
+invariant-loop-t l = PutWithin (wide_room * l.t-index) (goal_lines (take l.t-index l.tally)) l.initial.text.items l.text.items

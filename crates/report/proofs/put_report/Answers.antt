@@ -5,4 +5,4 @@ use Rattle.report.proofs.Printing.{all_put}
 use Rattle.report.proofs.put_report.Goals as goal
 
 pub returns : goal.returns
-returns c = all_put max_places refl c.report-day.ensures c.put_day-end.ensures c.put_goals.ensures
+returns c = all_put max_places refl c.report-day.ensures c.requires c.put_day.ensures c.put_goals.ensures

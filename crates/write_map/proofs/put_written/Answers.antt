@@ -1,25 +1,23 @@
 -- No loop: the map for 0, or the number in a line. Assumes nothing.
-use Prim.Native.Nat.{◌≤◌}
+use mathlib.Core.Path.{ap}
 use native.Mathlib.Omega.{arith}
 use lib.ListN.{length}
 use borrow.Author.Rules.{rules}
 use Rattle.std.proofs.Common.{Some}
 use Rattle.std.proofs.lemmas.Iterator.Adapters.{YieldsList-from_once}
 use Rattle.text.proofs.Lines.{room_for_narrow, line_given}
-use Rattle.write_map.proofs.Printing.{map_front, number_front}
+use Rattle.write_map.proofs.Printing.{map_front, number_line}
 use Rattle.write_map.proofs.put_written.Goals as goal
 
-pub put_line-end-requires-clause-room : goal.put_line-end-requires-clause-room
-put_line-end-requires-clause-room c =
-    let number = c.write-answer.result.number in
-    let room : 12 ≤ length c.args.err.now = search rules in
-    room_for_narrow (YieldsList-from_once (Some number) cc) (search rules) _ _ (omega arith)
+pub put_line-requires : goal.put_line-requires
+put_line-requires c =
+    (search rules, (search rules, (search rules, room_for_narrow (YieldsList-from_once (Some c.write-answer.result.number) cc) (search rules) _ _ (omega (arith, ap length c.new-line.ensures)))))
 
 pub returns-then-answer-ne0 : goal.returns-then-answer-ne0
 returns-then-answer-ne0 c =
     let call = c.write-answer in
-    let put = line_given (YieldsList-from_once (Some call.result.number) cc) c.put_line-end.ensures in
-    number_front (search rules) call.ensures c.if-answer-ne0.true put
+    let put = line_given (YieldsList-from_once (Some call.result.number) cc) _ c.put_line.ensures in
+    rw (put, c.new-line.ensures) (number_line (search rules) call.ensures c.if-answer-ne0.true)
 
 pub returns : goal.returns
 returns c =
