@@ -9,9 +9,7 @@ use lib.ListN.{length, drop, length-append}
 use lib.Seq.{append_snoc}
 use borrow.Author.Tests.{lt-ltb, ne_eqb}
 use Rattle.judge.specs.declared.survey.Survey.{Survey}
-use Rattle.std.specs.Prelude.{Option, Result, Some, None, Ok, Err}
-use Rattle.map.specs.Walks.{Position}
-use Rattle.judge.specs.Said.{SaidAt, NextSaid}
+use Rattle.std.specs.Prelude.{Some, None, Ok, Err}
 use Rattle.map.specs.declared.refusal.Refusal.{Refusal}
 use Rattle.judge.specs.Numbers.{no_number, number_or, given_number}
 use Rattle.judge.specs.Marks.{first_mark, Clear}
@@ -230,32 +228,3 @@ module _ (input : List ℕ) (at : ℕ) (m : List ℕ) (s : Survey) (w : Walked i
         number = rw all (end_number input m s w.passed w.notes);
         states = λ none. end_states input m s w.passed all w.notes (λ last. w.goals_end last ∙ is.0) (rw all at none);
       }
-
--- ---- The walk over what the records say
-
--- the survey is that of the records before the place where the walk stands
-pub record WalkedTo (input : List ℕ) (p : Position) (m : List ℕ) (s : Survey) : Type 0 where
-  pub same : p.input ≡ input
-  pub walked : Walked input p.at m s
-
-module _ {input : List ℕ} {p q : Position} {m : List ℕ} {s : Survey} (w : WalkedTo input p m s) {said : Option (Result declared.Item.Item Refusal)}
-    (step : NextSaid p said q) where
-  here : SaidAt input p.at said q.at
-  here = rw w.same at step.says
-
-  pub said_counted : length input < 2 ^ 63 → Counted s
-  said_counted room = walk_counted input p.at m s w.walked (let inside = w.walked.inside in omega (arith, inside))
-
-  pub said_again : {i : Item} → said ≡ Some (Ok i) → {marks : List ℕ} {t : Survey} → Noted m s i marks t → WalkedTo input q marks t
-  unfolding SaidAt
-  said_again {i} is step_noted =
-      let at = rw is at here in
-      record { same = step.same ∙ w.same; walked = rw at.3 (walk_again input p.at m s w.walked at.0 at.1 i at.2 _ _ step_noted) }
-
-  pub said_broken : {r : Refusal} → said ≡ Some (Err r) → {t : Survey} → t.refusal ≡ Some r → Surveyed input m t
-  unfolding SaidAt
-  said_broken {r} is {t} e = walk_broken input p.at m s w.walked r (rw is at here).0 t e
-
-  pub said_end : said ≡ None → Surveyed input m (at_end s)
-  unfolding SaidAt
-  said_end is = walk_end input p.at m s w.walked (rw is at here).0

@@ -1,7 +1,6 @@
 -- What each pass of judging gives, and the promise of the whole.
 pub mod Judge
 pub mod Numbers
-pub mod Said
 pub mod Marks
 pub mod Survey
 pub mod Factors

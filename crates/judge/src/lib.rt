@@ -4,7 +4,6 @@
 mod factors;
 mod goals;
 mod marks;
-mod said;
 mod survey;
 mod verdict;
 mod waits;
