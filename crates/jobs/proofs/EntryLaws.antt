@@ -361,8 +361,6 @@ module _ {input : List ℕ} {s t : Position} {bytes : ℕ} {read : Read} (m : Ma
           ends = omega (arith, rw (ne_eqb r.kind job_kind not-job) at first_left, whole_bytes input bytes inside r (here ∙ is));
         }
 
--- ---- Counting the entries
-
 -- n entries stand before the place of the walk, each of one byte or more, and the others from there on
 pub record CountLeft (input : List ℕ) (s : Position) (n : ℕ) : Type 0 where
   pub same : s.input ≡ input
