@@ -50,10 +50,12 @@ pub fn put32(s: &mut [u8], i: usize, x: u32)
     put16(s, i + 2, x / 65536);
 }
 
-// Writes bytes one after another, the first at byte i.
+// Writes bytes one after another, the first at byte i. By a loop: `copy_from_slice` would ask whoever links an archive for memcpy and memmove.
 pub fn put_bytes(s: &mut [u8], i: usize, bytes: &[u8])
     requires { i + length bytes.now ≤ length s.old }
     ensures { s.new ≡ sets s.old i bytes.now }
 {
-    s[i..i + bytes.len()].copy_from_slice(bytes);
+    for (k, byte) in bytes.iter().enumerate() {
+        s[i + k] = *byte;
+    }
 }

@@ -201,8 +201,8 @@ fn run(rt: &HostRuntime, case: Case, input: &[u8]) -> Result<Verdict, Unreadable
     })
 }
 
-// Reads the next case, for whose input there is room, and runs it: `None` at the end of the file.
-fn next(rt: &HostRuntime, room: &mut [u8]) -> Result<Option<Verdict>, Unreadable> {
+// The numbers of the next case: `None` at the end of the file.
+fn next(rt: &HostRuntime) -> Result<Option<Case>, Unreadable> {
     let mut front = [0u8; FRONT];
     let got = read_full(&mut rt.stdin(), &mut front);
     if got == 0 {
@@ -211,12 +211,16 @@ fn next(rt: &HostRuntime, room: &mut [u8]) -> Result<Option<Verdict>, Unreadable
     if got < FRONT {
         return Err(Unreadable);
     }
-    let case = Case::new(&front);
+    Ok(Some(Case::new(&front)))
+}
+
+// Reads the input of a case, for which there is room, and runs it.
+fn run_next(rt: &HostRuntime, case: Case, room: &mut [u8]) -> Result<Verdict, Unreadable> {
     if case.group >= GROUPS {
         return Err(Unreadable);
     }
     let input = read(&mut rt.stdin(), room, case.input)?;
-    Ok(Some(run(rt, case, input)?))
+    run(rt, case, input)
 }
 
 fn count(tallies: &mut [Tally; GROUPS], verdict: Verdict) {
@@ -229,20 +233,25 @@ fn count(tallies: &mut [Tally; GROUPS], verdict: Verdict) {
     }
 }
 
-// Runs every case to the end of the file.
+// Runs every case to the end of the file. The room for their inputs is made at the first one, as a file without cases needs none.
 fn run_all(rt: &HostRuntime, tallies: &mut [Tally; GROUPS]) -> io::Result<()> {
-    let mut room = vec![in rt.alloc(); 0u8; INPUT]?;
+    let mut room = Vec::new(rt.alloc());
     for nth in 1..CASES {
-        match next(rt, &mut room) {
+        let case = match next(rt) {
             Ok(None) => return Ok(()),
             Err(Unreadable) => return print_unreadable(rt, nth),
-            Ok(Some(verdict)) => {
-                if !verdict.right {
-                    print_wrong(rt, nth, verdict.given, verdict.expected)?;
-                }
-                count(tallies, verdict);
-            }
+            Ok(Some(case)) => case,
+        };
+        if room.is_empty() {
+            room = vec![in rt.alloc(); 0u8; INPUT]?;
         }
+        let Ok(verdict) = run_next(rt, case, &mut room) else {
+            return print_unreadable(rt, nth);
+        };
+        if !verdict.right {
+            print_wrong(rt, nth, verdict.given, verdict.expected)?;
+        }
+        count(tallies, verdict);
     }
     print_unreadable(rt, CASES)
 }

@@ -1,25 +1,26 @@
--- A sheet is shown as it was read: a refused one was read as zeros. Assumes nothing.
+-- What is shown of a reading, by its number. Assumes nothing.
 use mathlib.Core.Path.{◌≡◌}
-use mathlib.Core.Logic.{inl, inr}
-use mathlib.Core.Bool.{Bool, true, false, cond}
+use mathlib.Core.Logic.{◌⊎◌, inl, inr}
+use mathlib.Core.Bool.{true}
+use mathlib.Core.List.{List}
+use Prim.Native.Nat.{ℕ}
 use lib.ListN.{length, replicate}
+use borrow.Author.Tests.{ne_eqb}
 use Rattle.sheet_reader.specs.Sheets.{Reading}
-use Rattle.sheet_reader.proofs.Outcomes.{Outcome}
-use Rattle.display.specs.declared.Shown.{Shown}
+use Rattle.display.specs.declared.lamps.Lamp.{Lamp}
 use Rattle.display.specs.Shown.{lamp_of, accepted, shown}
 
--- what is read, with the lamp of its number
-abbrev pub with_lamp : Reading → Shown
-with_lamp r = record { lamp = lamp_of r.number; cost = r.cost; count = r.count; places = r.places }
+module _ (r : Reading) (light : Lamp) (is : light ≡ lamp_of r.number) where
+  pub shown_accepted : (r.number ≡ 0) ⊎ (r.number ≡ 17)
+      → record { lamp = light; cost = r.cost; count = r.count; places = r.places } ≡ shown r
+  unfolding shown
+  shown_accepted h = rw (is, holds h)
+    where
+      holds : (r.number ≡ 0) ⊎ (r.number ≡ 17) → accepted r ≡ true
+      holds (inl e) = rw e
+      holds (inr e) = rw e
 
-pub shown_as_read : (r : Reading) → Outcome r → with_lamp r ≡ shown r
-unfolding shown
-shown_as_read r (inl e) = rw e
-shown_as_read r (inr (inl e)) = rw e
-shown_as_read r (inr (inr z)) = go (accepted r)
-  where
-    go : (t : Bool)
-        → with_lamp r
-        ≡ cond t (with_lamp r) (record { lamp = lamp_of r.number; cost = 0; count = 0; places = replicate (length r.places) 0 })
-    go true = rw z.cost
-    go false = rw (z.cost, z.count, ← z.places)
+  pub shown_refused : ((r.number ≡ 0) ⊎ (r.number ≡ 17) → ⊥) → (zeros : List ℕ) → zeros ≡ replicate (length r.places) 0
+      → record { lamp = light; cost = 0; count = 0; places = zeros } ≡ shown r
+  unfolding shown
+  shown_refused h zeros z = rw (is, z, ne_eqb r.number 0 (λ e. h (inl e)), ne_eqb r.number 17 (λ e. h (inr e)))

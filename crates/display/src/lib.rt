@@ -8,7 +8,7 @@ ghost use Rattle.sheet_reader.specs.Sheets.{read_sheet};
 ghost use Rattle.display.specs.Shown.{lamp_of, shown};
 
 pub use lamps::Lamp;
-use sheet_reader::PLACES;
+use sheet_reader::{FOUND, NO_ROUTE, PLACES};
 
 // What is shown of a sheet; the places have zeros after the last.
 #[derive(Debug, PartialEq, Eq, Drop)]
@@ -35,16 +35,25 @@ pub fn lamp(number: u32) -> Lamp
     }
 }
 
-// The lamp of the read's number, and what was read, which is zeros where the sheet is refused.
+// The lamp of the read's number. The number alone decides whether what was read is shown: a refused sheet has zeros.
 pub fn show(sheet: &[u8]) -> Shown
     ensures { result ≡ shown (read_sheet sheet.now) }
 {
     let reading = sheet_reader::read(sheet);
+    let lamp = lamp(reading.number);
     let places = reading.places;
-    Shown {
-        lamp: lamp(reading.number),
-        cost: reading.cost,
-        count: reading.count,
-        places,
+    match reading.number {
+        FOUND | NO_ROUTE => Shown {
+            lamp,
+            cost: reading.cost,
+            count: reading.count,
+            places,
+        },
+        _ => Shown {
+            lamp,
+            cost: 0,
+            count: 0,
+            places: [0u16; PLACES],
+        },
     }
 }

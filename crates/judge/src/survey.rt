@@ -1,4 +1,5 @@
-// The pass over the records: what each is given by itself, and what they state. Each step is inlined, so that the survey stays in registers.
+// The pass over the records: what each is given by itself, and what they state. Each step is inlined but `earlier`, so that the survey stays in
+// registers.
 ghost use Rattle.std.specs.Prelude.{◌≡◌, not, eqb};
 ghost use Rattle.judge.specs.Marks.{Clear};
 ghost use Rattle.judge.specs.Numbers.{earlier};
@@ -145,8 +146,8 @@ fn headless(first: bool) -> Option<Refusal>
     None
 }
 
-// Of two refusals the one of the lower number.
-#[inline(always)]
+// Of two refusals the one of the lower number. Not inlined: its tests would be made of each record, and few are given a refusal.
+#[inline(never)]
 fn earlier(a: Option<Refusal>, b: Option<Refusal>) -> Option<Refusal>
     ensures { result ≡ earlier a b }
 {
@@ -157,6 +158,17 @@ fn earlier(a: Option<Refusal>, b: Option<Refusal>) -> Option<Refusal>
     }
 }
 
+// The same, with one test where the second is none.
+#[inline(always)]
+fn earlier_if_given(a: Option<Refusal>, b: Option<Refusal>) -> Option<Refusal>
+    ensures { result ≡ earlier a b }
+{
+    if let None = b {
+        return a;
+    }
+    earlier(a, b)
+}
+
 // The survey with one record more, which is given this refusal or none.
 #[inline(always)]
 fn after(s: Survey, refusal: Option<Refusal>) -> Survey
@@ -164,7 +176,7 @@ fn after(s: Survey, refusal: Option<Refusal>) -> Survey
     ensures { result ≡ passed s refusal }
 {
     let mut t = s;
-    t.refusal = earlier(s.refusal, refusal);
+    t.refusal = earlier_if_given(s.refusal, refusal);
     t.records += 1;
     t.job_last = false;
     t

@@ -76,7 +76,7 @@ module _ (fields : List ℕ) (k : ℕ) where
   fields_done h = rw (drop_of_length-le fields h)
 
 -- the lanes of words from number k on
-lanes_from_lem : (words : List ℕ) (k : ℕ) → 2 * k + 1 < length words
+pub lanes_from_lem : (words : List ℕ) (k : ℕ) → 2 * k + 1 < length words
     → Begins (put_lanes (drop (2 * k) words)) (put_lane (lane_in (key_from (get_or words (2 * k) 0) (get_or words (2 * k + 1) 0))))
     (put_lanes (drop (2 * (k + 1)) words))
 unfolding put_lanes keys_of flat_map
@@ -114,13 +114,13 @@ lanes_done words k h = no_lanes (drop (2 * k) words) (omega (arith, length-drop 
 
 -- the numbers of places from v on, but those that are d
 module _ (kind d : ℕ) (words : List ℕ) (v : ℕ) where
-  abbrev from_here : List ℕ
+  abbrev pub from_here : List ℕ
   from_here = put_by_place kind d v (drop v words)
 
-  abbrev from_next : List ℕ
+  abbrev pub from_next : List ℕ
   from_next = put_by_place kind d (v + 1) (drop (v + 1) words)
 
-  by_place_from : v < length words → from_here ≡ put_unless kind d v (get_or words v 0) ++ from_next
+  pub by_place_from : v < length words → from_here ≡ put_unless kind d v (get_or words v 0) ++ from_next
   unfolding put_by_place
   by_place_from h = rw (drop-cons words v 0 h, add-one v)
 

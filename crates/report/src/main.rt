@@ -32,7 +32,7 @@ fn put_count(text: &mut Text, number: u32, count: u32)
     ensures { PutWithin count_room (count_line number count) text.old.items text.new.items }
 {
     if count != 0 {
-        text::put_line(text, [number, count].into_iter().map(u64::from));
+        text::push_line(text, [number, count].into_iter().map(u64::from));
     }
 }
 
@@ -51,7 +51,7 @@ fn put_figures(text: &mut Text, day: Day)
     ensures { PutWithin wide_room (figures_line day) text.old.items text.new.items }
 {
     let figures = [day.cost, u64::from(day.largest), u64::from(day.expansions)];
-    text::put_line(text, figures.into_iter());
+    text::push_line(text, figures.into_iter());
 }
 
 // All that stands before the goals.
@@ -60,8 +60,8 @@ fn put_day(text: &mut Text, day: Day)
     ensures { PutWithin day_room (day_text day.status day) text.old.items text.new.items }
 {
     match day.status {
-        Status::TooLong => text::put_bytes(text, b"too long\n"),
-        Status::ShortTally => text::put_line(
+        Status::TooLong => text::push_bytes(text, b"too long\n"),
+        Status::ShortTally => text::push_line(
             text,
             iter::once(u64::from(Refusal::ShortSheet.number())),
         ),
@@ -79,7 +79,7 @@ fn put_goal(text: &mut Text, t: Tally)
 {
     if t.routes != 0 {
         let numbers = [u64::from(t.goal), u64::from(t.routes), t.cost];
-        text::put_line(text, numbers.into_iter());
+        text::push_line(text, numbers.into_iter());
     }
 }
 
@@ -108,23 +108,24 @@ fn put_report(text: &mut Text, input: &[u8], work: &mut [u32], sheet: &mut [u8])
     put_goals(text, &tally);
 }
 
-// All that the program prints of an input.
-fn text_of(input: &[u8]) -> Text
-    ensures { Prints input.now result.items }
+// All that the program prints of an input, into an empty text.
+fn text_of(input: &[u8], text: &mut Text)
+    requires { text.old.items ≡ [] }
+    ensures { Prints input.now text.new.items }
 {
     let mut work = [0u32; WORK];
     let mut sheet = [0u8; SHEET];
-    let mut text = ArrayVec::new();
-    put_report(&mut text, input, &mut work, &mut sheet);
-    text
+    put_report(text, input, &mut work, &mut sheet);
 }
 
 // The text goes out by one call, which ends at the first write that fails: what stands there then is the text's beginning, and no more follows.
 fn reply(rt: &HostRuntime, input: &[u8]) {
+    let mut text = ArrayVec::new();
+    text_of(input, &mut text);
     console::print(
         &rt.stdout(),
         &rt.stderr(),
-        text_of(input).as_slice(),
+        text.as_slice(),
         b"report: cannot write standard output\n",
     );
 }

@@ -1,4 +1,4 @@
--- The sheet of a call is within its area, and the places that a sheet says are small. Assumes nothing.
+-- The sheet of a call is within its area, a reading has room for the places that it counts, and these are small. Assumes nothing.
 use mathlib.Core.Path.{◌≡◌}
 use mathlib.Core.List.{List, [], ◌∷◌}
 use Prim.Native.Nat.{ℕ, zero, suc, ◌^◌, ◌≤◌, ◌<◌}
@@ -7,6 +7,7 @@ use native.Mathlib.Omega.{arith}
 use lib.ListN.{length, get_or, length-append}
 use lib.Seq.{take-append_seam}
 use Rattle.model.specs.Bytes.{Bytes}
+use Rattle.model.specs.Limits.{max_places}
 use Rattle.model.specs.Sheets.{reading, refused_read, read_sheet}
 use Rattle.model.specs.Stated.{Stated, problem_of}
 use Rattle.model.specs.Endings.{Ending, spent, no_route, routed, Engine, budgeted}
@@ -31,6 +32,16 @@ call_within (suc n) engine s work sheet = omega arith
 pub sheet_within : (input : List ℕ) → (answered input).answer.sheet_bytes ≤ length (answered input).sheet
 unfolding answered call
 sheet_within input = call_within _ budgeted _ _ _
+
+-- a reading counts at most 4,096 places
+pub few_read : (b : List ℕ) → Bytes b → (read_sheet b).count ≤ max_places
+unfolding reading refused_read
+few_read b bytes = go (ℕ_discrete (read_sheet b).number 0) (ℕ_discrete (read_sheet b).number 17)
+  where
+    go : Dec ((read_sheet b).number ≡ 0) → Dec ((read_sheet b).number ≡ 17) → (read_sheet b).count ≤ max_places
+    go (yes e) t = let s = accepted_route b bytes e in rw s.read s.can_be.few_places_lem
+    go (no x) (yes e) = let s = accepted_no_route b bytes e in rw s.read (omega arith)
+    go (no x) (no y) = let s = refused_otherwise b x y in rw s.1 (omega arith)
 
 -- where each of a list's numbers is below a bound, all are
 all-below : (bound : ℕ) (xs : List ℕ) → ((i : ℕ) → i < length xs → get_or xs i 0 < bound) → Below bound xs

@@ -31,7 +31,7 @@ fn put_answer(text: &mut Text, answer: Answer)
         answer.expansions,
         answer.queries,
     ];
-    text::put_line(text, numbers.into_iter().map(u64::from));
+    text::push_line(text, numbers.into_iter().map(u64::from));
 }
 
 // Line two: the places that the sheet says.
@@ -41,7 +41,7 @@ fn put_places(text: &mut Text, sheet: &[u8])
 {
     let reading = sheet_reader::read(sheet);
     let places = reading.places.iter().take(reading.count as usize);
-    text::put_line(text, places.map(|p| u64::from(*p)));
+    text::push_line(text, places.map(|p| u64::from(*p)));
 }
 
 // Both lines of an input's answer, or the one that it has.
@@ -59,25 +59,26 @@ fn put_route(text: &mut Text, input: &[u8])
     }
 }
 
-// All that the program prints of an input.
-fn text_of(input: &[u8]) -> Text
-    ensures { Prints input.now result.items }
+// All that the program prints of an input, into an empty text.
+fn text_of(input: &[u8], text: &mut Text)
+    requires { text.old.items ≡ [] }
+    ensures { Prints input.now text.new.items }
 {
-    let mut text = ArrayVec::new();
     if INPUT < input.len() {
-        text::put_bytes(&mut text, b"too long\n");
+        text::push_bytes(text, b"too long\n");
     } else {
-        put_route(&mut text, input);
+        put_route(text, input);
     }
-    text
 }
 
 // The text goes out by one call, which ends at the first write that fails: what stands there then is the text's beginning, and no more follows.
 fn reply(rt: &HostRuntime, input: &[u8]) {
+    let mut text = ArrayVec::new();
+    text_of(input, &mut text);
     console::print(
         &rt.stdout(),
         &rt.stderr(),
-        text_of(input).as_slice(),
+        text.as_slice(),
         b"route: cannot write standard output\n",
     );
 }

@@ -2,8 +2,10 @@
 use mathlib.Core.Path.{◌≡◌, refl, sym, ap, subst, ◌∙◌}
 use mathlib.Core.List.{List, [], ◌∷◌, ◌++◌, append_assoc, map-id}
 use Prim.Native.Nat.{ℕ, zero, suc, ◌+◌, ◌-◌, ◌*◌, ◌^◌, ◌≤◌, ◌<◌}
+use native.Mathlib.Numerals.{add-one}
 use native.Mathlib.Omega.{arith}
-use lib.ListN.{length, take, length-append}
+use lib.ListN.{length, get_or, take, length-append}
+use lib.Seq.{take-suc, take_all}
 use Rattle.std.specs.Prelude.{Option, Some, None}
 use Rattle.std.specs.Fn.{Called}
 use Rattle.std.specs.Array.Iter.{array_steps, array_into_iter_items}
@@ -16,8 +18,9 @@ use Rattle.std.specs.Iterator.Runs.{EachRunFrom, WholeRun}
 use Rattle.std.proofs.iter.runs.Made.{run_of_turn, run_of_exit, runs_from_along, took}
 use Rattle.std.proofs.lemmas.Iterator.{YieldsList, items_from_drains, maps, YieldsList-from_map}
 use Rattle.std.proofs.lemmas.Iterator.Consumers.{YieldsList-so_far, YieldsList-from_shown}
-use Rattle.text.specs.Text.{blank, line_feed, decimal, parted, in_line, line}
+use Rattle.text.specs.Text.{blank, line_feed, decimal, parted, in_line, line, Put}
 use Rattle.text.proofs.Decimals.{Short, short_32, short_64, decimal_some}
+use Rattle.text.proofs.Puts.{put_none, put_then}
 
 -- a number after others has a blank before it
 parted_after : (x : ℕ) (xs : List ℕ) (y : ℕ) → parted ((x ∷ xs) ++ (y ∷ [])) ≡ parted (x ∷ xs) ++ (blank ∷ decimal y)
@@ -50,6 +53,50 @@ unfolding parted
 parted_more [] i x e = sym (first_in_line i x e)
 parted_more (y ∷ ys) i x e =
     rw (next_in_line i x (λ z. omega (arith, parted_some y ys))) (parted_after y ys x)
+
+-- ---- A line put number by number into a lent text
+
+-- number i of a list goes after those before it
+parted_next : (xs : List ℕ) (i : ℕ) → i < length xs → parted (take (i + 1) xs) ≡ parted (take i xs) ++ in_line i (get_or xs i 0)
+unfolding parted in_line
+parted_next [] i l = absurd (omega arith)
+parted_next (x ∷ xs) zero l = refl
+parted_next (x ∷ xs) (suc i) l = rw (add-one (suc i), take-suc xs i 0 (omega arith)) (parted_after x (take i xs) (get_or xs i 0))
+
+in-line-length : (bytes i x : ℕ) → length (decimal x) < bytes → length (in_line i x) ≤ bytes
+unfolding in_line
+in-line-length bytes zero x h = omega arith
+in-line-length bytes (suc i) x h = omega arith
+
+-- The first i numbers of a line are put at a position, in at most so many bytes each.
+pub record Begun (bytes : ℕ) (numbers : List ℕ) (at : ℕ) (old text : List ℕ) (end i : ℕ) : Type 0 where
+  pub count : i ≤ length numbers
+  pub same : length text ≡ length old
+  pub short : end ≤ at + bytes * i
+  pub put : Put (parted (take i numbers)) at old text end
+
+pub none-begun : {bytes at : ℕ} {numbers text : List ℕ} → Begun bytes numbers at text text at 0
+unfolding parted
+none-begun {at} {text} = record { count = omega arith; same = refl; short = omega arith; put = put_none at text }
+
+module _ {bytes at end i r : ℕ} {numbers old mid text : List ℕ} (begun : Begun bytes numbers at old mid end i) (within : at ≤ length old) where
+  -- one number more
+  pub begun_more : i < length numbers → length (decimal (get_or numbers i 0)) < bytes → length text ≡ length mid
+      → Put (in_line i (get_or numbers i 0)) end mid text r → Begun bytes numbers at old text r (i + 1)
+  begun_more l h same put =
+      record {
+        count = omega arith;
+        same = omega arith;
+        short = omega (arith, in-line-length bytes i (get_or numbers i 0) h);
+        put = rw (parted_next numbers i l) (put_then within begun.put put);
+      }
+
+  -- after the last number a line feed ends the line
+  pub line_ended : length numbers ≤ i → Put (line_feed ∷ []) end mid text r → Put (line numbers) at old text r
+  unfolding line
+  line_ended l put = put_then within (rw (take_all i numbers l) at begun.put) put
+
+-- ---- A line put number by number at the end of a text
 
 -- Each run of an iterator has room for its line, after so many bytes.
 abbrev pub RoomForRuns : {S : Type 0} → (S → Option ℕ → S → Type 0) → S → (at size : ℕ) → Type 0

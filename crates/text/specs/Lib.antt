@@ -1,2 +1,2 @@
--- What a line of numbers is.
+-- What a line of numbers is, and what putting bytes into a text leaves.
 pub mod Text

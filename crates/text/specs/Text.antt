@@ -1,5 +1,5 @@
--- Numbers in decimal and lines of them as bytes.
-use Rattle.std.specs.Prelude.{cond, List, [], ◌∷◌, ◌++◌, ℕ, zero, suc, ◌+◌, ◌/◌, ◌%◌, ltb}
+-- Numbers in decimal and lines of them as bytes, and what putting bytes into a text leaves.
+use Rattle.std.specs.Prelude.{◌≡◌, cond, List, [], ◌∷◌, ◌++◌, ℕ, zero, suc, ◌+◌, ◌/◌, ◌%◌, ltb, length, take, drop}
 
 -- the ASCII codes of what stands between numbers and after a line
 abbrev pub blank : ℕ
@@ -34,3 +34,9 @@ line xs = parted xs ++ (line_feed ∷ [])
 -- the ASCII of `too long` and a line feed, which the programs say of an input that is longer than they take
 abbrev pub too_long : List ℕ
 too_long = 116 ∷ 111 ∷ 111 ∷ 32 ∷ 108 ∷ 111 ∷ 110 ∷ 103 ∷ line_feed ∷ []
+
+-- What a function that puts bytes into a text at a position leaves: the new bytes there, and nothing else changed. The position after them
+-- comes back.
+pub record Put (new : List ℕ) (at : ℕ) (old text : List ℕ) (r : ℕ) : Type 0 where
+  pub end : r ≡ at + length new
+  pub bytes : text ≡ take at old ++ (new ++ drop (at + length new) old)

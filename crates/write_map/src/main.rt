@@ -21,7 +21,7 @@ fn put_written(input: &[u8], out: &mut [u8; INPUT]) -> Result<usize, Line>
     let answer = map_writer::write(input, &mut work, out);
     if answer.number != 0 {
         let mut line = ArrayVec::new();
-        text::put_line(&mut line, iter::once(u64::from(answer.number)));
+        text::push_line(&mut line, iter::once(u64::from(answer.number)));
         return Err(line);
     }
     Ok(answer.sheet_bytes as usize)
@@ -33,7 +33,7 @@ fn texts_of(input: &[u8], out: &mut [u8; INPUT]) -> Result<usize, Line>
 {
     if INPUT < input.len() {
         let mut line = ArrayVec::new();
-        text::put_bytes(&mut line, b"too long\n");
+        text::push_bytes(&mut line, b"too long\n");
         return Err(line);
     }
     put_written(input, out)

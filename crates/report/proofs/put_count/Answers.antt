@@ -10,13 +10,13 @@ use Rattle.report.proofs.put_count.Goals as goal
 pub returns-else-count-ne0 : goal.returns-else-count-ne0
 returns-else-count-ne0 c = no_count _ _ c.if-count-ne0.false
 
-pub put_line-requires : goal.put_line-requires
-put_line-requires c =
+pub push_line-requires : goal.push_line-requires
+push_line-requires c =
     let xs = c.args.number ∷ c.args.count ∷ [] in
     (search rules, (search rules, (search rules, room_for_narrow (widened _ (YieldsList-from_array xs cc) c.map.ensures.closure (λ x r q k. search (rules, tests))) (search rules) _ _ (omega arith))))
 
 pub returns-then-count-ne0 : goal.returns-then-count-ne0
 returns-then-count-ne0 c =
     let xs = c.args.number ∷ c.args.count ∷ [] in
-    let put = line_given (widened _ (YieldsList-from_array xs cc) c.map.ensures.closure (λ x r q k. search (rules, tests))) _ c.put_line.ensures in
+    let put = line_given (widened _ (YieldsList-from_array xs cc) c.map.ensures.closure (λ x r q k. search (rules, tests))) _ c.push_line.ensures in
     a_count _ _ _ c.if-count-ne0.true (search rules) (search rules) put

@@ -11,15 +11,15 @@ use Rattle.report.proofs.Lines.{too_long_lem, short_tally, reported}
 use Rattle.report.proofs.put_day.Goals as goal
 
 pub returns-in-TooLong : goal.returns-in-TooLong
-returns-in-TooLong c = too_long_lem _ _ _ c.in-TooLong.is c.put_bytes.ensures
+returns-in-TooLong c = too_long_lem _ _ _ c.in-TooLong.is c.push_bytes.ensures
 
-pub put_line-requires : goal.put_line-requires
-put_line-requires c =
+pub push_line-requires : goal.push_line-requires
+push_line-requires c =
     (search rules, (search rules, (search rules, room_for_narrow (YieldsList-from_once (Some 15) cc) (search rules) _ _ (omega arith))))
 
 pub returns-in-ShortTally : goal.returns-in-ShortTally
 returns-in-ShortTally c =
-    short_tally _ _ _ c.in-ShortTally.is (line_given (YieldsList-from_once (Some 15) cc) _ c.put_line.ensures)
+    short_tally _ _ _ c.in-ShortTally.is (line_given (YieldsList-from_once (Some 15) cc) _ c.push_line.ensures)
 
 pub returns-in-Reported : goal.returns-in-Reported
 returns-in-Reported c =

@@ -6,8 +6,8 @@ use Rattle.text.proofs.Lines.{room_for_wide, line_given, YieldsList-from_array}
 use Rattle.report.proofs.Lines.{figures}
 use Rattle.report.proofs.put_figures.Goals as goal
 
-pub put_line-requires : goal.put_line-requires
-put_line-requires c =
+pub push_line-requires : goal.push_line-requires
+push_line-requires c =
     let d = c.args.day in
     let xs = d.cost ∷ d.largest ∷ d.expansions ∷ [] in
     (search rules, (search rules, (search rules, room_for_wide (YieldsList-from_array xs cc) (search rules) _ _ (omega arith))))
@@ -15,4 +15,4 @@ put_line-requires c =
 pub returns : goal.returns
 returns c =
     let d = c.args.day in
-    figures d _ (search rules) (line_given (YieldsList-from_array (d.cost ∷ d.largest ∷ d.expansions ∷ []) cc) _ c.put_line.ensures)
+    figures d _ (search rules) (line_given (YieldsList-from_array (d.cost ∷ d.largest ∷ d.expansions ∷ []) cc) _ c.push_line.ensures)

@@ -9,8 +9,8 @@ use Rattle.report.proofs.put_goal.Goals as goal
 pub returns-else-t-ne0 : goal.returns-else-t-ne0
 returns-else-t-ne0 c = no_goal _ c.if-t-ne0.false
 
-pub put_line-requires : goal.put_line-requires
-put_line-requires c =
+pub push_line-requires : goal.push_line-requires
+push_line-requires c =
     let t = c.args.t in
     let xs = t.goal ∷ t.routes ∷ t.cost ∷ [] in
     (search rules, (search rules, (search rules, room_for_wide (YieldsList-from_array xs cc) (search rules) _ _ (omega arith))))
@@ -18,4 +18,4 @@ put_line-requires c =
 pub returns-then-t-ne0 : goal.returns-then-t-ne0
 returns-then-t-ne0 c =
     let t = c.args.t in
-    a_goal t _ c.if-t-ne0.true (search rules) (line_given (YieldsList-from_array (t.goal ∷ t.routes ∷ t.cost ∷ []) cc) _ c.put_line.ensures)
+    a_goal t _ c.if-t-ne0.true (search rules) (line_given (YieldsList-from_array (t.goal ∷ t.routes ∷ t.cost ∷ []) cc) _ c.push_line.ensures)

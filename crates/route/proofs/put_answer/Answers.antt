@@ -10,8 +10,8 @@ use Rattle.answer.specs.Numbers.{answer_of}
 use Rattle.route.specs.Printed.{six}
 use Rattle.route.proofs.put_answer.Goals as goal
 
-pub put_line-requires : goal.put_line-requires
-put_line-requires c =
+pub push_line-requires : goal.push_line-requires
+push_line-requires c =
     let xs = six (answer_of c.args.answer) in
     (search rules, (search rules, (search rules, room_for_narrow (widened _ (YieldsList-from_array xs cc) c.map.ensures.closure (λ x r q k. search (rules, tests))) (search rules) _ _ (omega arith))))
 
@@ -19,5 +19,5 @@ pub returns : goal.returns
 returns c =
     let xs = six (answer_of c.args.answer) in
     let short = line-length xs (search rules) in
-    let put = line_given (widened _ (YieldsList-from_array xs cc) c.map.ensures.closure (λ x r q k. search (rules, tests))) _ c.put_line.ensures in
+    let put = line_given (widened _ (YieldsList-from_array xs cc) c.map.ensures.closure (λ x r q k. search (rules, tests))) _ c.push_line.ensures in
     record { put = put; short = omega (arith, ap length put, length-append c.args.text.now.items (line xs)) }

@@ -26,9 +26,9 @@ taken c =
     let all = YieldsList-at c.take-places.ensures.source (YieldsList-from_slice read.places c.iter.ensures.rest) in
     rw (listed c) at (YieldsList-from_take read.count all c.take-places.ensures.count)
 
-pub put_line-requires : goal.put_line-requires
-put_line-requires c =
-    let at = goal.at.put_line-requires c in
+pub push_line-requires : goal.push_line-requires
+push_line-requires c =
+    let at = goal.at.push_line-requires c in
     let read = c.read-reading.result in
     let small = places_small c.args.sheet.now (λ i. omega (arith, c.type_inv.sheet i)) in
     let few : length read.places ≡ 4096 = search rules in
@@ -47,4 +47,4 @@ put_line-requires c =
 pub returns : goal.returns
 returns c =
     let gives = YieldsList-at c.map.ensures.source (taken (goal.at.returns c).After-take-places) in
-    line_given (widened _ gives c.map.ensures.closure (λ x r q k. search (rules, tests))) _ c.put_line.ensures
+    line_given (widened _ gives c.map.ensures.closure (λ x r q k. search (rules, tests))) _ c.push_line.ensures

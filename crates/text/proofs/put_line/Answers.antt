@@ -1,34 +1,20 @@
 use native.Mathlib.Omega.{arith}
-use mathlib.Core.Path.{sym}
-use mathlib.Core.List.{append-nil}
-use Rattle.std.proofs.Common.{rules}
-use Rattle.text.specs.Text.{parted}
-use Rattle.text.proofs.Lines.{room_for_one, one_put, room_for_end, line_put}
+use Rattle.text.proofs.Decimals.{short_32}
+use Rattle.text.proofs.Lines.{none-begun, begun_more, line_ended}
 use Rattle.text.proofs.put_line.Goals as goal
 
-pub loop-x-init : goal.loop-x-init
-unfolding parted
-loop-x-init g c = (search rules, search rules, sym (append-nil _))
+pub loop-i-init : goal.loop-i-init
+loop-i-init c = none-begun
 
-pub put_in_line-requires : goal.put_in_line-requires
-put_in_line-requires g c =
-    let l = c.loop-x in
-    let fits = room_for_one g.I.Iterator.next_gives c.into_iter-x-iterator.ensures.into_iter_gives l.yielded l.x-iterator l.yielded_by _ c.len-from.ensures.value c.requires.room l.invariant.2 c.in-Some.x _ c.in-Some.ensures.steps in
-    (search rules, omega arith)
+pub put_in_line-end-requires : goal.put_in_line-end-requires
+put_in_line-end-requires c =
+    rw c.from.ensures (omega (arith, short_32 _ (c.type_inv.numbers c.loop-i.i).fits))
 
-pub loop-x-preserved : goal.loop-x-preserved
-loop-x-preserved g c =
-    let l = c.loop-x in
-    let more = one_put g.I.Iterator.next_gives c.into_iter-x-iterator.ensures.into_iter_gives l.yielded l.x-iterator l.yielded_by _ c.len-from.ensures.value c.requires.room l.invariant.2 c.in-Some.x c.put_in_line.ensures in
-    (search rules, search rules, more)
-
-pub push-requires : goal.push-requires
-push-requires g c =
-    let l = c.loop-x in
-    let fits = room_for_end g.I.Iterator.next_gives c.into_iter-x-iterator.ensures.into_iter_gives l.yielded l.x-iterator l.yielded_by _ c.len-from.ensures.value c.requires.room l.invariant.2 _ c.in-None.ensures.steps in
-    (search rules, omega arith)
+pub loop-i-preserved : goal.loop-i-preserved
+loop-i-preserved c =
+    let l = c.loop-i in
+    let short = short_32 _ (c.type_inv.numbers l.i).fits in
+    begun_more l.invariant (omega arith) (omega arith) short (omega arith) (rw c.from.ensures at c.put_in_line-end.ensures)
 
 pub returns : goal.returns
-returns g c =
-    let l = c.loop-x in
-    line_put g.I.Iterator.next_gives c.into_iter-x-iterator.ensures.into_iter_gives l.yielded l.x-iterator l.yielded_by _ c.len-from.ensures.value c.requires.room l.invariant.2 _ {new = c.push.new.self.items} c.in-None.ensures.steps c.push.ensures.items
+returns c = line_ended c.loop-i.invariant (omega arith) (omega arith) c.put_bytes.ensures

@@ -1,9 +1,11 @@
--- The loop's invariant: the numbers that came are put, parted by blanks. Assumes nothing.
-use Rattle.std.proofs.Common.{◌≡◌, ◌++◌}
-use Rattle.text.specs.Text.{parted}
+-- The loop's invariant: the first i numbers are put, in at most 11 bytes each. The measure is the number of numbers that are left. Assumes nothing.
+use Prim.Native.Nat.{◌-◌}
+use lib.ListN.{length}
+use Rattle.text.proofs.Lines.{Begun}
 use Rattle.text.proofs.put_line.Given as goal
 
-abbrev pub invariant-loop-x : goal.invariant-loop-x
-invariant-loop-x g l =
-    (goal.iterator-loop-x g).can_next l.x-iterator × (goal.iterator-loop-x g).is_finite l.x-iterator
-    × l.text.items ≡ l.initial.text.items ++ parted l.yielded
+abbrev pub invariant-loop-i : goal.invariant-loop-i
+invariant-loop-i l = Begun 11 l.numbers l.at l.initial.text l.text l.end l.i
+
+abbrev pub decreases-loop-i : goal.decreases-loop-i
+decreases-loop-i l = length l.numbers - l.i

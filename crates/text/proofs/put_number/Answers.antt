@@ -2,19 +2,17 @@
 use mathlib.Core.Path.{◌≡◌, sym, ap, ◌∙◌}
 use native.Mathlib.Omega.{arith}
 use lib.ListN.{length, take}
-use borrow.Author.Rules.{rules}
 use Rattle.text.specs.Text.{decimal}
 use Rattle.text.proofs.Decimals.{decimal_digits}
-use Rattle.text.proofs.put_number.Given.{Over}
 use Rattle.text.proofs.put_number.Goals.{After-decimal-count}
 use Rattle.text.proofs.put_number.Goals as goal
 
 -- what was given is the number's decimal
-spelled : (g : Over) (c : After-decimal-count g) → take c.decimal-count.result c.decimal-count.new.out ≡ decimal c.args.x
-spelled g c = c.decimal-count.ensures.digits ∙ sym (decimal_digits c.args.x c.decimal-count.result c.decimal-count.ensures.len)
+spelled : (c : After-decimal-count) → take c.decimal-count.result c.decimal-count.new.out ≡ decimal c.args.x
+spelled c = c.decimal-count.ensures.digits ∙ sym (decimal_digits c.args.x c.decimal-count.result c.decimal-count.ensures.len)
 
 pub put_bytes-requires : goal.put_bytes-requires
-put_bytes-requires g c = (search rules, omega (arith, ap length (spelled g (goal.at.put_bytes-requires g c).After-decimal-count)))
+put_bytes-requires c = omega (arith, ap length (spelled (goal.at.put_bytes-requires c).After-decimal-count))
 
 pub returns : goal.returns
-returns g c = rw (spelled g (goal.at.returns g c).After-decimal-count) at c.put_bytes.ensures
+returns c = rw (spelled (goal.at.returns c).After-decimal-count) at c.put_bytes.ensures
